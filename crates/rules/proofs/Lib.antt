@@ -1,0 +1,10 @@
+pub mod laws
+pub mod Cases
+pub mod Worked
+pub mod Apart
+pub mod Scripts
+pub mod Histories
+pub mod Door
+pub mod Sounds
+pub mod Spoken
+pub mod Exactly

@@ -1,0 +1,2 @@
+-- Laws: theorems about the definitions of specs/ alone, which the proofs of the code cite.
+pub mod Columns

@@ -1,0 +1,69 @@
+-- Every call, at the inner door and at the host's.
+use Prim.Native.Nat.{ℕ}
+use mathlib.Core.Path.{_≡_}
+use mathlib.Core.Bool.{Bool, true, false}
+use mathlib.Core.List.{List, []}
+use Rattle.rules.specs.declared.Key.{Key}
+use Rattle.rules.specs.Tables.{State}
+use Rattle.rules.specs.Sound.{Sound}
+use Rattle.rules.specs.Refusals.{Ruling, Outcome, outcome, shaped, door}
+use Rattle.rules.specs.Reads
+use Rattle.rules.specs.Slots
+use Rattle.rules.specs.Runs
+use Rattle.rules.specs.Drains
+use Rattle.rules.specs.Exchange
+use Rattle.rules.specs.Compress
+
+-- Rules 1 and 4 to 14
+pub data Call : Type 0 where
+  lenSurject getElement getShared remove removeShared list drain : Key → Call
+  inSameSurject union : (j k : Key) → Call
+  setElement insert : Key → (payload : ℕ) → Call
+  setShared : Key → (value : ℕ) → Call
+  exchange : List Key → (values : List ℕ) → Call
+  newRun : (payload value : ℕ) → Call
+  compress : (reset : Bool) → Call
+  check drainAll clear : Call
+
+abbrev pub ruling : State → (lent : List ℕ) → Call → Ruling
+ruling st lent (lenSurject k) = Reads.lenSurject st k
+ruling st lent (inSameSurject j k) = Reads.inSameSurject st j k
+ruling st lent (getElement k) = Reads.getElement st k
+ruling st lent (getShared k) = Reads.getShared st k
+ruling st lent (setElement k payload) = Reads.setElement st k payload
+ruling st lent (setShared k value) = Reads.setShared st k value
+ruling st lent check = Reads.check st
+ruling st lent (newRun payload value) = Runs.newRun st payload value
+ruling st lent (insert k payload) = Runs.insert st k payload
+ruling st lent (union j k) = Runs.union st j k
+ruling st lent (remove k) = Runs.remove st k
+ruling st lent (removeShared k) = Drains.removeShared st k
+ruling st lent (list k) = Drains.list st lent k
+ruling st lent (drain k) = Drains.drain st lent k
+ruling st lent drainAll = Drains.drainAll st lent
+ruling st lent clear = Drains.clear st
+ruling st lent (exchange keys values) = Exchange.exchange st keys values
+ruling st lent (compress reset) = Compress.compress st lent reset
+
+-- Tables, last: the inner door, which rests on soundness; and what that is
+pub record Ready (st : State) : Type 0 where
+  pub shape : shaped st ≡ true
+  pub sound : Sound st
+
+abbrev pub step : State → (lent : List ℕ) → Call → Outcome
+step st lent c = outcome st lent (ruling st lent c)
+
+-- Rules 2, fresh, which has no door but its own: it takes any tables that fit
+abbrev pub freshStep : State → (elems shared : ℕ) → Outcome
+freshStep st elems shared = outcome st [] (Slots.fresh st elems shared)
+
+-- the truth value says whether P holds
+abbrev pub Is : Type 0 → Bool → Type 0
+Is P true = P
+Is P false = P → ⊥
+
+-- Tables, last: the host's door. What is promised of the outcome of each call
+pub record AtDoor (st : State) (lent : List ℕ) (c : Call) (o : Outcome) : Type 0 where
+  pub sound : Bool
+  pub decided : Is (Sound st) sound
+  pub same : o ≡ outcome st lent (door st sound (ruling st lent c))

@@ -1,0 +1,123 @@
+// The types of document 01: head, key, refusals and answers. The rules are in specs/.
+
+// Numbers to an element slot and to a shared slot (docs/LAYOUT.md); in the rules, frameWidth and headerWidth.
+pub const FRAME: u64 = 5;
+
+pub const HEADER: u64 = 3;
+
+// Tables and head: what the head holds of one table.
+pub struct Pool {
+    pub capacity: u64,
+    pub extent: u64,
+    pub root: u64,
+    pub live: u64,
+}
+
+// Tables and head: the head of both tables.
+pub struct Head {
+    pub elems: Pool,
+    pub shared: Pool,
+    pub generation: u64,
+}
+
+// Tables and head: a key.
+pub struct Key {
+    pub slot: u64,
+    pub generation: u64,
+}
+
+// Numbers given on refusal, 1 to 8 in this order.
+pub enum Refusal {
+    Shape,
+    Unsound,
+    Dead,
+    SameClass,
+    NoElement,
+    NoShared,
+    Short,
+    Malformed,
+}
+
+// What looking up a key finds: its slot, or nothing live.
+pub enum Found {
+    Live(u64),
+    Dead,
+}
+
+// The answer of fresh, the check, clear and compression.
+pub enum Done {
+    Done,
+    Refused(Refusal),
+}
+
+// The answer of a call that reads or sets a number, and of one that writes places: how many.
+pub enum Number {
+    Is(u64),
+    Refused(Refusal),
+}
+
+// The answer of `in_same_surject`.
+pub enum Same {
+    Yes,
+    No,
+    Refused(Refusal),
+}
+
+// The answer of new run and insert.
+pub enum Inserted {
+    At(Key),
+    Refused(Refusal),
+}
+
+// The answer of union: the removed shared value, the kept class's key, the class entries rewritten.
+pub enum Joined {
+    Into { was: u64, kept: Key, moved: u64 },
+    Refused(Refusal),
+}
+
+// What removal says of the run: it goes on, or that was its last frame, with the shared value.
+pub enum Rest {
+    GoesOn,
+    Last(u64),
+}
+
+// The answer of removal.
+pub enum Removed {
+    Out { payload: u64, rest: Rest },
+    Refused(Refusal),
+}
+
+// The answer of the four-key exchange: the old values in key order, zeros when refused.
+pub struct Exchanged {
+    pub answer: Done,
+    pub old: [u64; 4],
+}
+
+// What a head-changing step hands back: the next head, its answer, and beside it the overflow mark where the call can say overflow.
+pub struct HeadDone {
+    pub head: Head,
+    pub answer: Done,
+    pub over: bool,
+}
+
+pub struct HeadNumber {
+    pub head: Head,
+    pub answer: Number,
+    pub over: bool,
+}
+
+pub struct HeadInserted {
+    pub head: Head,
+    pub answer: Inserted,
+}
+
+pub struct HeadJoined {
+    pub head: Head,
+    pub answer: Joined,
+}
+
+pub struct HeadRemoved {
+    pub head: Head,
+    pub answer: Removed,
+    pub over: bool,
+}
