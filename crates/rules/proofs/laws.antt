@@ -1,2 +1,3 @@
 -- Laws: theorems about the definitions of specs/ alone, which the proofs of the code cite.
 pub mod Columns
+pub mod Lists
