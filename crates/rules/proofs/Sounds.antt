@@ -7,7 +7,7 @@ use mathlib.Core.Bool.{Bool, true, false, _&&_, not}
 use mathlib.Core.List.{[], _∷_, _++_, map}
 use lib.Dec.{T, leb, eqb, leb→le, lit≤}
 use Rattle.rules.specs.Notation.{steps}
-use Rattle.rules.specs.Tables.{classOf, nextOf, countOf, State, Side, fieldOf, elemSide, sharedSide, isFree, isLive, cell}
+use Rattle.rules.specs.Tables.{frameWidth, headerWidth, classOf, nextOf, countOf, State, Side, fieldOf, elemSide, sharedSide, isFree, isLive, cell}
 use Rattle.rules.specs.Sound.{fits, Sound, Frame, Header, OneRing, RingSize}
 use Rattle.rules.proofs.Cases.{at, pool, e, s}
 use Rattle.rules.proofs.Worked.{three}
@@ -30,7 +30,7 @@ ranges = refl
 
 -- ---- a property of each number in a range
 
--- slots 1 to 4, and fields 0 to 4
+-- slots 1 to 4, and the fields of a frame
 slot-of-4 : (P : ℕ → Type 0) → P 1 → P 2 → P 3 → P 4 → (n : ℕ) → 1 ≤ n → n ≤ 4 → P n
 slot-of-4 P a b c d zero lo hi = absurd (omega arith)
 slot-of-4 P a b c d (suc zero) lo hi = a
@@ -39,9 +39,9 @@ slot-of-4 P a b c d (suc (suc (suc zero))) lo hi = c
 slot-of-4 P a b c d (suc (suc (suc (suc zero)))) lo hi = d
 slot-of-4 P a b c d (suc (suc (suc (suc (suc n))))) lo hi = absurd (omega arith)
 
-field-of-5 : (P : ℕ → Type 0) → P 0 → P 1 → P 2 → P 3 → P 4 → (n : ℕ) → n < 5 → P n
-field-of-5 P z a b c d zero hi = z
-field-of-5 P z a b c d (suc n) hi = slot-of-4 P a b c d (suc n) (omega arith) (omega arith)
+field-of-frame : (P : ℕ → Type 0) → P 0 → P 1 → P 2 → P 3 → P 4 → (n : ℕ) → n < frameWidth → P n
+field-of-frame P z a b c d zero hi = z
+field-of-frame P z a b c d (suc n) hi = slot-of-4 P a b c d (suc n) (omega arith) (omega arith)
 
 within : (a b c : Bool) → T (a && b && c) → T a × T b
 within true true true h = (tt, tt)
@@ -76,20 +76,20 @@ no-free-header n h =
     let r = free-range (sharedSide three) n h in
     slot-of-4 (λ m. m ≤ 1 → T (isFree (sharedSide three) m) → ⊥) (λ _ k. k) (λ l _. absurd (omega arith)) (λ l _. absurd (omega arith)) (λ l _. absurd (omega arith)) n (r .0) (omega arith) (r .1) h
 
-past-frame : (n f : ℕ) → 3 < n → n ≤ 4 → f < 5 → fieldOf (elemSide three) f n ≡ 0
+past-frame : (n f : ℕ) → 3 < n → n ≤ 4 → f < frameWidth → fieldOf (elemSide three) f n ≡ 0
 unfolding cell
 past-frame n f lo hi =
-    slot-of-4 (λ m. 3 < m → (f : ℕ) → f < 5 → fieldOf (elemSide three) f m ≡ 0)
+    slot-of-4 (λ m. 3 < m → (f : ℕ) → f < frameWidth → fieldOf (elemSide three) f m ≡ 0)
     (λ l _ _. absurd (omega arith)) (λ l _ _. absurd (omega arith)) (λ l _ _. absurd (omega arith))
-    (λ _. field-of-5 (λ f. fieldOf (elemSide three) f 4 ≡ 0) refl refl refl refl refl) n (omega arith) hi lo f
+    (λ _. field-of-frame (λ f. fieldOf (elemSide three) f 4 ≡ 0) refl refl refl refl refl) n (omega arith) hi lo f
 
-past-header : (n f : ℕ) → 1 < n → n ≤ 3 → f < 3 → fieldOf (sharedSide three) f n ≡ 0
+past-header : (n f : ℕ) → 1 < n → n ≤ 3 → f < headerWidth → fieldOf (sharedSide three) f n ≡ 0
 unfolding cell
 past-header n f lo hi lf =
-    slot-of-4 (λ m. 1 < m → m ≤ 3 → (f : ℕ) → f < 3 → fieldOf (sharedSide three) f m ≡ 0)
+    slot-of-4 (λ m. 1 < m → m ≤ 3 → (f : ℕ) → f < headerWidth → fieldOf (sharedSide three) f m ≡ 0)
     (λ l _ _ _. absurd (omega arith))
-    (λ _ _ f l. field-of-5 (λ f. f < 3 → fieldOf (sharedSide three) f 2 ≡ 0) (λ _. refl) (λ _. refl) (λ _. refl) (λ k. absurd (omega arith)) (λ k. absurd (omega arith)) f (omega arith) l)
-    (λ _ _ f l. field-of-5 (λ f. f < 3 → fieldOf (sharedSide three) f 3 ≡ 0) (λ _. refl) (λ _. refl) (λ _. refl) (λ k. absurd (omega arith)) (λ k. absurd (omega arith)) f (omega arith) l)
+    (λ _ _ f l. field-of-frame (λ f. f < headerWidth → fieldOf (sharedSide three) f 2 ≡ 0) (λ _. refl) (λ _. refl) (λ _. refl) (λ k. absurd (omega arith)) (λ k. absurd (omega arith)) f (omega arith) l)
+    (λ _ _ f l. field-of-frame (λ f. f < headerWidth → fieldOf (sharedSide three) f 3 ≡ 0) (λ _. refl) (λ _. refl) (λ _. refl) (λ k. absurd (omega arith)) (λ k. absurd (omega arith)) f (omega arith) l)
     (λ _ l _ _. absurd (omega arith)) n (omega arith) (omega arith) lo hi f lf
 
 class-one : (n : ℕ) → Frame three n → classOf (three .elems) n ≡ 1
