@@ -1,3 +1,4 @@
 -- Laws: theorems about the definitions of specs/ alone, which the proofs of the code cite.
 pub mod Columns
+pub mod Safe
 pub mod Lists
