@@ -1,0 +1,2 @@
+-- What the functions over the tables ask and answer.
+pub mod Asked
