@@ -1,5 +1,7 @@
 use native.Mathlib.Omega.{arith}
-use Rattle.slots.proofs.Places.{cell-index, cell-place}
+use mathlib.Core.Path.{sym}
+use Rattle.rules.proofs.laws.Columns.{cell-index}
+use Rattle.slots.proofs.Places.{cell-place}
 use borrow.Author.Needs.{needs}
 use Rattle.slots.proofs.get.Statement.{statement}
 use Rattle.slots.proofs.get.Tie as tie
@@ -22,7 +24,7 @@ shared-slice-read-result : tie.Need-shared-slice-read-result
 shared-slice-read-result c = omega (arith, cell-place _ _ _ _ (c .before .pre))
 
 returns : tie.Need-returns
-returns c = cell-index _ _ _ _ (c .before .pre .some)
+returns c = sym (cell-index _ _ _ _ (c .before .pre .some))
 
 pub get-spec : {M : Type 1} → statement M
 get-spec =

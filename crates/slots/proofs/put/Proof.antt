@@ -1,5 +1,7 @@
 use native.Mathlib.Omega.{arith}
-use Rattle.slots.proofs.Places.{put-index, cell-place}
+use mathlib.Core.Path.{sym}
+use Rattle.rules.proofs.laws.Columns.{put-index}
+use Rattle.slots.proofs.Places.{cell-place}
 use borrow.Author.Needs.{needs}
 use Rattle.slots.proofs.put.Statement.{statement}
 use Rattle.slots.proofs.put.Tie as tie
@@ -25,7 +27,7 @@ same-length : tie.Need-same-length
 same-length c = search needs
 
 returns : tie.Need-returns
-returns c = put-index _ _ _ _ _ (c .pre .some)
+returns c = sym (put-index _ _ _ _ _ (c .pre .some))
 
 pub put-spec : {M : Type 1} → statement M
 put-spec = tie.close (tie.spec sub-t mul-t add-t mul-t-2 slice-write-t same-length returns)
