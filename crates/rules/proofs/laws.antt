@@ -2,3 +2,7 @@
 pub mod Columns
 pub mod Safe
 pub mod Lists
+pub mod Pools
+pub mod Count
+pub mod Working
+pub mod Links

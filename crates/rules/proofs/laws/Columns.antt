@@ -52,6 +52,18 @@ upd-is f g a v same other = fun-ext λ s. go s (ℕ-discrete s a)
     go s (yes e) = rw e (same ∙ sym (upd-same f a v))
     go s (no e) = other s e ∙ sym (upd-other f a v s e)
 
+-- `x` is passed over: it becomes `y`
+unfoldable pub skip : ℕ → ℕ → ℕ → ℕ
+skip x y = upd (λ z. z) x y
+
+pub skip-here : (x y : ℕ) → skip x y x ≡ y
+unfolding skip
+skip-here x y = upd-same (λ z. z) x y
+
+pub skip-past : (x y z : ℕ) → z ≢ x → skip x y z ≡ z
+unfolding skip
+skip-past x y z e = upd-other (λ k. k) x y z e
+
 -- two places of a table
 apart : (w s s′ f f′ : ℕ) → f < w → s < s′ → s * w + f < s′ * w + f′
 apart w s s′ f f′ h l = omega (arith, mul-le-mul-right w l)
