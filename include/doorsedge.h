@@ -1,0 +1,240 @@
+/* Doorsedge: runs of frames in lent tables, with a shared value for each run.
+
+   A port of `SurjectArena` of the Rust crate triple_arena 0.15.1 (MIT OR Apache-2.0), every function of it proved.
+   Link with target/staticlib/libhost.a (`rt staticlib host`).
+
+   The caller owns everything: a head of DOORSEDGE_HEAD numbers, a table of element slots, a table of shared slots, and
+   the buffers that some calls write. Nothing is allocated, nothing is kept between calls. Any numbers may stand in
+   them: each call tests them and refuses what does not fit.
+
+   Pointers. A length is counted in numbers (uint64_t), not in bytes. Each pointer must be to memory of the size said,
+   must not be NULL (not even with length 0), and those that a call may write must not overlap any other.
+
+   Refusals. Each entry returns 0 when it accepted, else the number of the refusal. A refused call changes nothing:
+   head, tables, buffers and `out` stay as they were. The tests come in the order 1, 2, 3, 4, 6, 5, 7, and each
+   entry below lists those that it can give. Every entry but `fresh` can give 1 and 2.
+
+   Numbers. Payloads and shared values are any uint64_t. Yes is 1 and no is 0. */
+#ifndef DOORSEDGE_H
+#define DOORSEDGE_H
+
+#include <stddef.h>
+#include <stdint.h>
+
+#ifdef __cplusplus
+extern "C" {
+#endif
+
+/* ---- Refusals */
+
+enum doorsedge_refusal {
+    DOORSEDGE_OK = 0,
+    DOORSEDGE_SHAPE = 1,      /* a capacity is not 1 to 65,536, or a table's length is not what its capacity asks */
+    DOORSEDGE_UNSOUND = 2,    /* the shape fits, but head and tables are not a sound state */
+    DOORSEDGE_DEAD = 3,       /* a key handed in is not live */
+    DOORSEDGE_SAME_CLASS = 4, /* two keys that must be of different runs are of one */
+    DOORSEDGE_NO_ELEMENT = 5, /* no element slot can be taken */
+    DOORSEDGE_NO_SHARED = 6,  /* no shared slot can be taken */
+    DOORSEDGE_SHORT = 7       /* a buffer has fewer places than needed */
+};
+
+/* ---- Layout. Slots are numbered from 1; slot s of a table of width w begins at number (s - 1) * w. */
+
+#define DOORSEDGE_HEAD 9          /* numbers to a head */
+#define DOORSEDGE_FRAME 5         /* numbers to an element slot */
+#define DOORSEDGE_HEADER 3        /* numbers to a shared slot */
+#define DOORSEDGE_PLACE 2         /* numbers to a place that `list` writes */
+#define DOORSEDGE_RECORD 6        /* numbers to a record that `drain` and `drain_all` write */
+#define DOORSEDGE_MOST_SLOTS 65536
+#define DOORSEDGE_LAST_GENERATION UINT64_C(4294967295)
+
+/* Lengths, in numbers, for capacities and counts of frames. */
+#define DOORSEDGE_ELEMS_LEN(capacity) ((size_t)(capacity) * DOORSEDGE_FRAME)
+#define DOORSEDGE_SHARED_LEN(capacity) ((size_t)(capacity) * DOORSEDGE_HEADER)
+#define DOORSEDGE_LIST_LEN(frames) ((size_t)(frames) * DOORSEDGE_PLACE)
+#define DOORSEDGE_DRAIN_LEN(frames) ((size_t)(frames) * DOORSEDGE_RECORD)
+#define DOORSEDGE_SCRATCH_LEN(capacity) ((size_t)(capacity) * DOORSEDGE_FRAME)
+
+/* The head's numbers. The extent is the highest slot ever used since fresh, clear or compression. */
+enum doorsedge_head {
+    DOORSEDGE_ELEMS_CAPACITY = 0,
+    DOORSEDGE_ELEMS_EXTENT = 1,
+    DOORSEDGE_ELEMS_ROOT = 2, /* first free slot, 0 for none */
+    DOORSEDGE_ELEMS_LIVE = 3, /* how many frames there are */
+    DOORSEDGE_SHARED_CAPACITY = 4,
+    DOORSEDGE_SHARED_EXTENT = 5,
+    DOORSEDGE_SHARED_ROOT = 6,
+    DOORSEDGE_SHARED_LIVE = 7, /* how many runs there are */
+    DOORSEDGE_GENERATION = 8   /* 1 to 4,294,967,295 */
+};
+
+/* An element slot's numbers. A free one holds the next free slot in `next`, and 0 elsewhere. */
+enum doorsedge_frame {
+    DOORSEDGE_FRAME_GENERATION = 0, /* 0 when free */
+    DOORSEDGE_FRAME_PAYLOAD = 1,
+    DOORSEDGE_FRAME_CLASS = 2, /* the run's shared slot */
+    DOORSEDGE_FRAME_PREVIOUS = 3,
+    DOORSEDGE_FRAME_NEXT = 4
+};
+
+/* A shared slot's numbers. */
+enum doorsedge_header {
+    DOORSEDGE_HEADER_COUNT = 0, /* frames of the run, 0 when free */
+    DOORSEDGE_HEADER_VALUE = 1, /* 0 when free */
+    DOORSEDGE_HEADER_NEXT_FREE = 2
+};
+
+/* A place that `list` writes: the key of a frame. */
+enum doorsedge_place { DOORSEDGE_PLACE_SLOT = 0, DOORSEDGE_PLACE_GENERATION = 1 };
+
+/* A record that `drain` and `drain_all` write: the key that the frame had, its payload, whether it was the last frame
+   of its run, the run's shared value (0 if not last), and whether the generation overflowed in this removal. */
+enum doorsedge_record {
+    DOORSEDGE_RECORD_SLOT = 0,
+    DOORSEDGE_RECORD_GENERATION = 1,
+    DOORSEDGE_RECORD_PAYLOAD = 2,
+    DOORSEDGE_RECORD_LAST = 3,
+    DOORSEDGE_RECORD_VALUE = 4,
+    DOORSEDGE_RECORD_OVERFLOW = 5
+};
+
+/* A key is two numbers, slot and generation. It is live while its frame is in the tables. */
+
+/* ---- State */
+
+/* Makes empty tables of these capacities: all zero, generation 1. The tables and the head may hold anything before.
+   Refusals: 1, by the two capacities handed in and the two lengths. */
+uint64_t doorsedge_fresh(uint64_t head[DOORSEDGE_HEAD], uint64_t elems_capacity, uint64_t shared_capacity,
+                         uint64_t *elems, size_t elems_len, uint64_t *shared, size_t shared_len);
+
+/* Tells whether head and tables are a sound state: 0 if so. Changes nothing.
+   Refusals: 1, 2. */
+uint64_t doorsedge_check(const uint64_t head[DOORSEDGE_HEAD], const uint64_t *elems, size_t elems_len,
+                         const uint64_t *shared, size_t shared_len);
+
+/* ---- Reads: they change nothing but `out`. */
+
+/* out: how many frames the key's run has.
+   Refusals: 1, 2, 3. */
+uint64_t doorsedge_len_surject(const uint64_t head[DOORSEDGE_HEAD], const uint64_t *elems, size_t elems_len,
+                               const uint64_t *shared, size_t shared_len, uint64_t slot, uint64_t generation,
+                               uint64_t out[1]);
+
+/* out: 1 if both keys are of one run, else 0.
+   Refusals: 1, 2, 3. */
+uint64_t doorsedge_in_same_surject(const uint64_t head[DOORSEDGE_HEAD], const uint64_t *elems, size_t elems_len,
+                                   const uint64_t *shared, size_t shared_len, uint64_t slot0, uint64_t generation0,
+                                   uint64_t slot1, uint64_t generation1, uint64_t out[1]);
+
+/* out: the frame's payload.
+   Refusals: 1, 2, 3. */
+uint64_t doorsedge_get(const uint64_t head[DOORSEDGE_HEAD], const uint64_t *elems, size_t elems_len,
+                       const uint64_t *shared, size_t shared_len, uint64_t slot, uint64_t generation, uint64_t out[1]);
+
+/* out: the shared value of the key's run.
+   Refusals: 1, 2, 3. */
+uint64_t doorsedge_get_shared(const uint64_t head[DOORSEDGE_HEAD], const uint64_t *elems, size_t elems_len,
+                              const uint64_t *shared, size_t shared_len, uint64_t slot, uint64_t generation,
+                              uint64_t out[1]);
+
+/* Writes the keys of the key's run into `places`, in ring order from the key: DOORSEDGE_PLACE numbers a frame.
+   Numbers past those written stay as they were.
+   out: how many frames were written.
+   Refusals: 1, 2, 3, 7 (fewer than DOORSEDGE_LIST_LEN(frames of the run) numbers). */
+uint64_t doorsedge_list(const uint64_t head[DOORSEDGE_HEAD], const uint64_t *elems, size_t elems_len,
+                        const uint64_t *shared, size_t shared_len, uint64_t slot, uint64_t generation,
+                        uint64_t *places, size_t places_len, uint64_t out[1]);
+
+/* ---- Sets: keys, rings and the head stay as they are. */
+
+/* Stores a payload. out: the old one.
+   Refusals: 1, 2, 3. */
+uint64_t doorsedge_set(const uint64_t head[DOORSEDGE_HEAD], uint64_t *elems, size_t elems_len, const uint64_t *shared,
+                       size_t shared_len, uint64_t slot, uint64_t generation, uint64_t payload, uint64_t out[1]);
+
+/* Stores the shared value of the key's run. out: the old one.
+   Refusals: 1, 2, 3. */
+uint64_t doorsedge_set_shared(const uint64_t head[DOORSEDGE_HEAD], const uint64_t *elems, size_t elems_len,
+                              uint64_t *shared, size_t shared_len, uint64_t slot, uint64_t generation, uint64_t value,
+                              uint64_t out[1]);
+
+/* Stores the shared values of four different runs at once. keys: slot and generation of each key in turn.
+   out: the old values, in key order.
+   Refusals: 1, 2, 3 (any of the four), 4 (two keys of one run). */
+uint64_t doorsedge_exchange_shared4(const uint64_t head[DOORSEDGE_HEAD], const uint64_t *elems, size_t elems_len,
+                                    uint64_t *shared, size_t shared_len, const uint64_t keys[8],
+                                    const uint64_t values[4], uint64_t out[4]);
+
+/* ---- Frames in and out */
+
+/* Begins a run: one frame with this payload, and this shared value.
+   out: the frame's key.
+   Refusals: 1, 2, 6, 5. */
+uint64_t doorsedge_insert_new(uint64_t head[DOORSEDGE_HEAD], uint64_t *elems, size_t elems_len, uint64_t *shared,
+                              size_t shared_len, uint64_t payload, uint64_t value, uint64_t out[2]);
+
+/* Puts a frame into the key's run, immediately after the key's frame.
+   out: the new frame's key.
+   Refusals: 1, 2, 3, 5. */
+uint64_t doorsedge_insert(uint64_t head[DOORSEDGE_HEAD], uint64_t *elems, size_t elems_len, uint64_t *shared,
+                          size_t shared_len, uint64_t slot, uint64_t generation, uint64_t payload, uint64_t out[2]);
+
+/* Joins two runs. The larger run's shared value is kept, or the first key's where they are equally large; keys stay live.
+   out: the removed shared value, slot and generation of the key (of the two) whose value is kept, and how many frames
+   changed their run.
+   Refusals: 1, 2, 3, 4 (both keys of one run). */
+uint64_t doorsedge_union(uint64_t head[DOORSEDGE_HEAD], uint64_t *elems, size_t elems_len, uint64_t *shared,
+                         size_t shared_len, uint64_t slot0, uint64_t generation0, uint64_t slot1, uint64_t generation1,
+                         uint64_t out[4]);
+
+/* Removes a frame. The generation rises by one.
+   out: its payload; 1 if it was the run's last frame, else 0; the run's shared value if it was, else 0; and 1 if the
+   generation overflowed (went from 4,294,967,295 to 1), else 0.
+   Refusals: 1, 2, 3. */
+uint64_t doorsedge_remove_element(uint64_t head[DOORSEDGE_HEAD], uint64_t *elems, size_t elems_len, uint64_t *shared,
+                                  size_t shared_len, uint64_t slot, uint64_t generation, uint64_t out[4]);
+
+/* Removes the key's whole run. The generation rises by one, once.
+   out: the shared value; and 1 if the generation overflowed, else 0.
+   Refusals: 1, 2, 3. */
+uint64_t doorsedge_remove_shared(uint64_t head[DOORSEDGE_HEAD], uint64_t *elems, size_t elems_len, uint64_t *shared,
+                                 size_t shared_len, uint64_t slot, uint64_t generation, uint64_t out[2]);
+
+/* Removes the key's run frame by frame, in ring order from the key, and writes DOORSEDGE_RECORD numbers for each into
+   `records`. The generation rises by one for each. Numbers past those written stay as they were.
+   out: how many records were written.
+   Refusals: 1, 2, 3, 7 (fewer than DOORSEDGE_DRAIN_LEN(frames of the run) numbers). */
+uint64_t doorsedge_drain(uint64_t head[DOORSEDGE_HEAD], uint64_t *elems, size_t elems_len, uint64_t *shared,
+                         size_t shared_len, uint64_t slot, uint64_t generation, uint64_t *records, size_t records_len,
+                         uint64_t out[1]);
+
+/* ---- All at once */
+
+/* Drains every run: again and again the run of the lowest live slot, from there. Then clears; that last step's overflow
+   is not reported.
+   out: how many records were written.
+   Refusals: 1, 2, 7 (fewer than DOORSEDGE_DRAIN_LEN(all frames) numbers). */
+uint64_t doorsedge_drain_all(uint64_t head[DOORSEDGE_HEAD], uint64_t *elems, size_t elems_len, uint64_t *shared,
+                             size_t shared_len, uint64_t *records, size_t records_len, uint64_t out[1]);
+
+/* Makes the tables as `fresh` leaves them, but with a generation one higher, also when they were empty.
+   out: 1 if the generation overflowed, else 0.
+   Refusals: 1, 2. */
+uint64_t doorsedge_clear(uint64_t head[DOORSEDGE_HEAD], uint64_t *elems, size_t elems_len, uint64_t *shared,
+                         size_t shared_len, uint64_t out[1]);
+
+/* Moves all frames down: runs in the order of their lowest slots, each in ring order from there, to slots 1 and up; run
+   k gets shared slot k. Every frame gets a new key: the new slot, and the generation, which becomes 1 if `reset` is not 0
+   and else rises by one. The first DOORSEDGE_SCRATCH_LEN(element capacity) numbers of `scratch` are left 0, any past
+   those as they were.
+   out: 1 if the generation overflowed, else 0 (always 0 with `reset`).
+   Refusals: 1, 2, 7 (fewer than DOORSEDGE_SCRATCH_LEN(element capacity) numbers). */
+uint64_t doorsedge_compress_canonical(uint64_t head[DOORSEDGE_HEAD], uint64_t *elems, size_t elems_len,
+                                      uint64_t *shared, size_t shared_len, uint64_t reset, uint64_t *scratch,
+                                      size_t scratch_len, uint64_t out[1]);
+
+#ifdef __cplusplus
+}
+#endif
+
+#endif
