@@ -6,3 +6,5 @@ pub mod Pools
 pub mod Count
 pub mod Working
 pub mod Links
+pub mod Tests
+pub mod Keys
