@@ -8,3 +8,4 @@ pub mod Working
 pub mod Links
 pub mod Tests
 pub mod Keys
+pub mod Places
