@@ -24,6 +24,7 @@ place-cases ys x y = go (eqb x y) (eqb→eq x y) (λ e. eqb-refl′ e)
   where
     eqb-refl′ : x ≡ y → T (eqb x y)
     eqb-refl′ e = rw e (eqb-refl y)
+
     go : (b : Bool) → (T b → x ≡ y) → (x ≡ y → T b) → ((x ≡ y) × ((if b then 1 else suc (placeOf ys x)) ≡ 1)) ⊎ ((x ≢ y) × ((if b then 1 else suc (placeOf ys x)) ≡ suc (placeOf ys x)))
     go true f g = inl (f tt, refl)
     go false f g = inr (g, refl)
@@ -33,8 +34,8 @@ pub place-in : (x : ℕ) (xs : List ℕ) → In x xs → (1 ≤ placeOf xs x) ×
 place-in x (y ∷ ys) m = go (place-cases ys x y) m (λ k. place-in x ys k)
   where
     go : ((x ≡ y) × (placeOf (y ∷ ys) x ≡ 1)) ⊎ ((x ≢ y) × (placeOf (y ∷ ys) x ≡ suc (placeOf ys x))) → In x (y ∷ ys)
-      → (In x ys → (1 ≤ placeOf ys x) × (placeOf ys x ≤ length ys) × (getD ys (placeOf ys x - 1) 0 ≡ x))
-      → (1 ≤ placeOf (y ∷ ys) x) × (placeOf (y ∷ ys) x ≤ suc (length ys)) × (getD (y ∷ ys) (placeOf (y ∷ ys) x - 1) 0 ≡ x)
+        → (In x ys → (1 ≤ placeOf ys x) × (placeOf ys x ≤ length ys) × (getD ys (placeOf ys x - 1) 0 ≡ x))
+        → (1 ≤ placeOf (y ∷ ys) x) × (placeOf (y ∷ ys) x ≤ suc (length ys)) × (getD (y ∷ ys) (placeOf (y ∷ ys) x - 1) 0 ≡ x)
     go (inl p) m f = rw (p .1) (omega arith, omega arith, sym (p .0))
     go (inr p) (inl q) f = absurd (p .0 q)
     go (inr p) (inr k) f =
@@ -58,7 +59,7 @@ place-at (x ∷ xs) zero u h = go (place-cases xs x x)
 place-at (x ∷ xs) (suc i) u h = go (place-cases xs (getD xs i 0) x) (place-at xs i (u .1) (le-of-suc-le-suc h))
   where
     go : ((getD xs i 0 ≡ x) × (placeOf (x ∷ xs) (getD xs i 0) ≡ 1)) ⊎ ((getD xs i 0 ≢ x) × (placeOf (x ∷ xs) (getD xs i 0) ≡ suc (placeOf xs (getD xs i 0))))
-      → placeOf xs (getD xs i 0) ≡ suc i → placeOf (x ∷ xs) (getD xs i 0) ≡ suc (suc i)
+        → placeOf xs (getD xs i 0) ≡ suc i → placeOf (x ∷ xs) (getD xs i 0) ≡ suc (suc i)
     go (inl p) r = absurd (all-at (λ y. x ≢ y) (getD xs i 0) xs (u .0) (in-at xs i (le-of-suc-le-suc h)) (sym (p .0)))
     go (inr p) r = p .1 ∙ ap suc r
 
@@ -97,6 +98,7 @@ upto-is n f col z h k = fun-ext go
     one : (u : ℕ) → Dec (u < n) → col (suc u) ≡ upto n f (suc u)
     one u (yes l) = h u l ∙ sym (upto-in n f (suc u) (omega arith) l)
     one u (no l) = k u (omega arith) ∙ sym (upto-out n f (suc u) (omega arith))
+
     go : (s : ℕ) → col s ≡ upto n f s
     go zero = z ∙ sym (upto-none n f)
     go (suc u) = one u (decLt u n)
@@ -134,7 +136,7 @@ pub cells-ext : (w n : ℕ) (t t′ : List ℕ) → 0 < w → length t ≡ n * w
 unfolding cell
 cells-ext w n t t′ pos l l′ h =
     ext-getD 0 t t′ (l ∙ sym l′) (λ i b.
-      subst₂ (λ (a b : ℕ). getD t a 0 ≡ getD t′ b 0) (div-add-mod' i w) (div-add-mod' i w) (ap (λ (col : ℕ → ℕ). col (suc (i / w))) (h (i % w) (mod-lt i pos))))
+    subst₂ (λ (a b : ℕ). getD t a 0 ≡ getD t′ b 0) (div-add-mod' i w) (div-add-mod' i w) (ap (λ (col : ℕ → ℕ). col (suc (i / w))) (h (i % w) (mod-lt i pos))))
 
 module _ (w : ℕ) (row : ℕ → List ℕ) (wide : (x : ℕ) → length (row x) ≡ w) where
   pub length-rows : (xs : List ℕ) → length (flat (map row xs)) ≡ length xs * w
@@ -181,5 +183,6 @@ module _ (w : ℕ) (row : ℕ → List ℕ) (wide : (x : ℕ) → length (row x)
     where
       inside : (u : ℕ) → u < length xs → cell w (padded long (flat (map row xs))) f (suc u) ≡ getD (row (getD xs (suc u - 1) 0)) f 0
       inside u l = let e : suc u - 1 ≡ u = omega arith in rw e (padded-in long xs u f h l)
+
       past : (u : ℕ) → length xs ≤ u → cell w (padded long (flat (map row xs))) f (suc u) ≡ 0
       past u l = padded-out long xs (u * w + f) (omega (arith, mul-le-mul-right w l))
