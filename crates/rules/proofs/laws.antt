@@ -9,3 +9,5 @@ pub mod Links
 pub mod Tests
 pub mod Keys
 pub mod Places
+pub mod Chains
+pub mod Rounds
