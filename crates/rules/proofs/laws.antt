@@ -11,3 +11,5 @@ pub mod Keys
 pub mod Places
 pub mod Chains
 pub mod Rounds
+pub mod Fronted
+pub mod Rep

@@ -6,7 +6,6 @@ use Prim.Native.Nat.{ℕ, zero, suc, _+_, _≤_, _<_}
 use native.Mathlib.Omega.{arith}
 use lib.ListN.{length, length-append}
 use Rattle.rules.specs.Notation.{flat}
-use Rattle.rules.proofs.laws.Columns.{upd, upd-same, upd-other}
 
 module _ {A : Type 0} where
   abbrev pub All : (A → Type 0) → List A → Type 0
@@ -165,15 +164,3 @@ module _ {A : Type 0} where
           nor : (a ≡ x → ⊥) → (In a xs → ⊥) → In a (x ∷ xs) → ⊥
           nor e m (inl q) = e q
           nor e m (inr q) = m q
-
--- `x` is passed over
-unfoldable pub skip : ℕ → ℕ → ℕ → ℕ
-skip x y = upd (λ z. z) x y
-
-pub skip-here : (x y : ℕ) → skip x y x ≡ y
-unfolding skip
-skip-here x y = upd-same (λ z. z) x y
-
-pub skip-past : (x y z : ℕ) → z ≢ x → skip x y z ≡ z
-unfolding skip
-skip-past x y z e = upd-other (λ k. k) x y z e
