@@ -13,3 +13,4 @@ pub mod Chains
 pub mod Rounds
 pub mod Fronted
 pub mod Rep
+pub mod Histories

@@ -108,3 +108,35 @@ fronted k (r ∷ rs) d m = go (holds k r) (holds-is k r) (λ i. fronted k rs (no
     go true i f = begun (before k r) (after k r) (runsBut k rs) (cut-at k r i)
         (runsBut-none k rs (λ j. out-not k (flat rs) (all-at (λ x. Out x (flat rs)) k r (nodup-parts r (flat rs) d .2) i) j))
     go false n f = via (under (f (elsewhere n (in-parts k r (flat rs) m)))) swap
+
+-- the run of `j`, which is no run of `k`, among the runs that do not hold `k`
+pub others-but : (j k : Key) (rs : List (List Key)) → NoDup (flat rs) → In k (flat rs) → In j (flat (runsBut k rs)) → othersOf j (runsBut k rs) ≡ othersOf j rs
+unfolding othersOf runsBut
+others-but j k (r ∷ rs) d i m = go (holds k r) (holds-is k r) m (λ i m. others-but j k rs (nodup-parts r (flat rs) d .1) i m)
+  where
+    within : In j r ⊎ In j (flat (runsBut k rs)) → (In j r → ⊥) → In j (flat (runsBut k rs))
+    within (inl q) n = absurd (n q)
+    within (inr q) n = q
+
+    elsewhere : In k r ⊎ In k (flat rs) → (In k r → ⊥) → In k (flat rs)
+    elsewhere (inl q) n = absurd (n q)
+    elsewhere (inr q) n = q
+
+    apart : (x : Key) → In x r → In x (flat rs) → ⊥
+    apart x p q = out-not x (flat rs) (all-at (λ y. Out y (flat rs)) x r (nodup-parts r (flat rs) d .2) p) q
+
+    third : (c : Bool) → Is (In j r) c → In j r ⊎ In j (flat (runsBut k rs)) → (In j (flat (runsBut k rs)) → othersOf j (runsBut k rs) ≡ othersOf j rs)
+        → (if c then after j r ++ before j r else othersOf j (runsBut k rs)) ≡ (if c then after j r ++ before j r else othersOf j rs)
+    third true h m f = refl
+    third false h m f = f (within m h)
+
+    gone : (c : Bool) → Is (In j r) c → (In j r → ⊥) → othersOf j rs ≡ (if c then after j r ++ before j r else othersOf j rs)
+    gone true h n = absurd (n h)
+    gone false h n = refl
+
+    go : (b : Bool) → Is (In k r) b → In j (flat (if not b then r ∷ runsBut k rs else runsBut k rs)) → (In k (flat rs) → In j (flat (runsBut k rs)) → othersOf j (runsBut k rs) ≡ othersOf j rs)
+        → othersOf j (if not b then r ∷ runsBut k rs else runsBut k rs) ≡ (if holds j r then after j r ++ before j r else othersOf j rs)
+    go true h m f =
+        let e : runsBut k rs ≡ rs = runsBut-none k rs (apart k h) in
+        ap (othersOf j) e ∙ gone (holds j r) (holds-is j r) (λ p. apart j p (rw e at m))
+    go false h m f = third (holds j r) (holds-is j r) (in-parts j r (flat (runsBut k rs)) m) (f (elsewhere (in-parts k r (flat rs) i) h))

@@ -1,0 +1,5 @@
+-- What each call does to the history, from what it does to the links.
+pub mod NewRun
+pub mod Insert
+pub mod Union
+pub mod Remove
