@@ -14,3 +14,4 @@ pub mod Rounds
 pub mod Fronted
 pub mod Rep
 pub mod Histories
+pub mod Search

@@ -1,9 +1,18 @@
 // The types of document 01: head, key, refusals and answers. The rules are in specs/.
 
+ghost use mathlib.Core.Path.{_≡_};
+ghost use Prim.Native.Nat.{_+_, _≤_};
+ghost use Rattle.rules.specs.Notation.{_==_};
+ghost use Rattle.rules.specs.Tables.{mostSlots, lastGeneration, withGeneration};
+ghost use Rattle.rules.specs.Slots.{slotOf, isFull, freed, raised};
+
 // Numbers to an element slot and to a shared slot (docs/LAYOUT.md); in the rules, frameWidth and headerWidth.
 pub const FRAME: u64 = 5;
 
 pub const HEADER: u64 = 3;
+
+// Tables 3: in the rules, lastGeneration.
+pub const LAST_GENERATION: u64 = 4294967295;
 
 // Tables and head: what the head holds of one table.
 pub struct Pool {
@@ -13,11 +22,93 @@ pub struct Pool {
     pub live: u64,
 }
 
+impl Pool {
+    // Refusals 5 and 6: no slot can be taken.
+    pub fn is_full(self) -> bool
+        ensures { λ r. ⌜ isFull self ≡ r ⌝ }
+    {
+        if self.root == 0 {
+            self.extent == self.capacity
+        } else {
+            false
+        }
+    }
+
+    // Rules 3: the slot that is taken next.
+    pub fn slot(self) -> u64
+        requires { ⌜ self .extent ≤ mostSlots ⌝ }
+        ensures { λ r. ⌜ r ≡ slotOf self ⌝ }
+    {
+        if self.root == 0 {
+            self.extent + 1
+        } else {
+            self.root
+        }
+    }
+
+    // Rules 3: the free root is taken, and `next` becomes the root.
+    pub fn pop(mut self, next: u64) -> Self
+        requires { ⌜ self .live ≤ mostSlots ⌝ }
+        ensures { λ r. ⌜ r ≡ record { capacity = self .capacity; extent = self .extent; root = next; live = self .live + 1 } ⌝ }
+    {
+        self.root = next;
+        self.live = self.live + 1;
+        self
+    }
+
+    // Rules 3: the slot past the extent is taken.
+    pub fn grow(mut self) -> Self
+        requires { ⌜ (self .extent ≤ mostSlots) × (self .live ≤ mostSlots) ⌝ }
+        ensures { λ r. ⌜ r ≡ record { capacity = self .capacity; extent = self .extent + 1; root = self .root; live = self .live + 1 } ⌝ }
+    {
+        self.extent = self.extent + 1;
+        self.live = self.live + 1;
+        self
+    }
+
+    // Rules 3: a slot is freed.
+    pub fn push(mut self, slot: u64) -> Self
+        requires { ⌜ 1 ≤ self .live ⌝ }
+        ensures { λ r. ⌜ r ≡ freed self slot ⌝ }
+    {
+        self.root = slot;
+        self.live = self.live - 1;
+        self
+    }
+}
+
 // Tables and head: the head of both tables.
 pub struct Head {
     pub elems: Pool,
     pub shared: Pool,
     pub generation: u64,
+}
+
+// The head with its generation raised, and whether that says overflow.
+pub struct Raised {
+    pub head: Head,
+    pub over: bool,
+}
+
+impl Head {
+    // Rules, below the list: after the last generation comes 1.
+    pub fn raise(mut self) -> Raised
+        requires { ⌜ self .generation ≤ lastGeneration ⌝ }
+        ensures { λ r. ⌜ r ≡ record { head = withGeneration self (raised (self .generation)); over = self .generation == lastGeneration } ⌝ }
+    {
+        if self.generation == LAST_GENERATION {
+            self.generation = 1;
+            return Raised {
+                head: self,
+                over: true,
+            };
+        }
+        self.generation = self.generation + 1;
+        Raised {
+            head: self,
+            over: false,
+        }
+    }
 }
 
 // Tables and head: a key.
