@@ -6,5 +6,6 @@ pub mod Scripts
 pub mod Histories
 pub mod Door
 pub mod Sounds
+pub mod Unsound
 pub mod Spoken
 pub mod Exactly
