@@ -13,5 +13,7 @@ pub mod Chains
 pub mod Rounds
 pub mod Fronted
 pub mod Rep
+pub mod Sums
+pub mod Classes
 pub mod Histories
 pub mod Search

@@ -3,3 +3,4 @@ pub mod NewRun
 pub mod Insert
 pub mod Union
 pub mod Remove
+pub mod Gone

@@ -1,7 +1,7 @@
 -- Lists: every member, membership, none twice; and the walk along a next-function.
 use mathlib.Core.Path.{_≡_, refl, sym, ap, _∙_, subst₂}
 use mathlib.Core.Logic.{_≢_, _⊎_, inl, inr}
-use mathlib.Core.List.{List, [], _∷_, _++_, append-nil, append-assoc}
+use mathlib.Core.List.{List, [], _∷_, _++_, map, append-nil, append-assoc}
 use Prim.Native.Nat.{ℕ, zero, suc, _+_, _≤_, _<_}
 use native.Mathlib.Omega.{arith}
 use lib.ListN.{length, length-append}
@@ -125,6 +125,15 @@ module _ {A : Type 0} where
   pub walk-turn : (n : A → A) (x y : A) (p q : List A) → Walk n (n x) x (p ++ y ∷ q) → Walk n (n y) y (q ++ x ∷ p)
   walk-turn n x y p q w = let r = walk-cut n (n x) x y p q w in walk-join n (n y) y x q p (r .1) (r .0)
 
+  -- from one place to another, not met before, there is one walk
+  pub walk-only : (n : A → A) (a b : A) (xs ys : List A) → Out b xs → Out b ys → Walk n a b xs → Walk n a b ys → xs ≡ ys
+  walk-only n a b [] [] o p v w = refl
+  walk-only n a b [] (y ∷ ys) o p v w = absurd (p .0 (sym v ∙ w .0))
+  walk-only n a b (x ∷ xs) [] o p v w = absurd (o .0 (sym w ∙ v .0))
+  walk-only n a b (x ∷ xs) (y ∷ ys) o p v w =
+      let e : y ≡ x = sym (w .0) ∙ v .0 in
+      rw e (ap {B = List A} (λ l. x ∷ l) (walk-only n (n x) b xs ys (o .1) (p .1) (v .1) (rw e at (w .1))))
+
   -- the list is a ring of `n`
   abbrev pub Cycle : (A → A) → List A → Type 0
   Cycle n [] = ⊥
@@ -164,3 +173,26 @@ module _ {A : Type 0} where
           nor : (a ≡ x → ⊥) → (In a xs → ⊥) → In a (x ∷ xs) → ⊥
           nor e m (inl q) = e q
           nor e m (inr q) = m q
+
+module _ {A B : Type 0} (f : A → B) where
+  pub in-map : (a : A) (xs : List A) → In a xs → In (f a) (map f xs)
+  in-map a (x ∷ xs) (inl e) = inl (ap f e)
+  in-map a (x ∷ xs) (inr m) = inr (in-map a xs m)
+
+  -- what is in an image is the image of a member
+  pub in-image : (b : B) (xs : List A) → In b (map f xs) → (a : A) × In a xs × (b ≡ f a)
+  in-image b (x ∷ xs) (inl e) = (x, inl refl, e)
+  in-image b (x ∷ xs) (inr m) = let r = in-image b xs m in (r .0, inr (r .1), r .2)
+
+  pub all-image : (P : B → Type 0) (xs : List A) → All (λ a. P (f a)) xs → All P (map f xs)
+  all-image P [] h = tt
+  all-image P (x ∷ xs) h = (h .0, all-image P xs (h .1))
+
+  -- none twice, where members that differ have images that differ
+  pub nodup-image : (P : A → Type 0) (xs : List A) → ((a b : A) → P a → P b → a ≢ b → f a ≢ f b) → All P xs → NoDup xs → NoDup (map f xs)
+  nodup-image P [] h p d = tt
+  nodup-image P (x ∷ xs) h p d = (all-image (λ b. f x ≢ b) xs (all-both (λ y q o. h x y (p .0) q o) xs (p .1) (d .0)), nodup-image P xs h (p .1) (d .1))
+
+  pub walk-image : (n : A → A) (m : B → B) → ((x : A) → f (n x) ≡ m (f x)) → (a b : A) (xs : List A) → Walk n a b xs → Walk m (f a) (f b) (map f xs)
+  walk-image n m c a b [] w = ap f w
+  walk-image n m c a b (x ∷ xs) w = (ap f (w .0), rw (c x) at (walk-image n m c (n x) b xs (w .1)))

@@ -8,9 +8,10 @@ use Rattle.rules.specs.declared.Key.{Key}
 use Rattle.rules.specs.Notation.{flat}
 use Rattle.rules.specs.History.{othersOf, runOf, runsBut, joinedRuns}
 use Rattle.rules.proofs.laws.Lists.{All, In, NoDup, Walk, all-both, all-at, all-of, all-append, all-parts, in-left, in-right, in-parts, nodup-parts, nodup-append, across, cycles-frame, walk-frame, walk-join}
-use Rattle.rules.proofs.laws.Working.{View, Working, next-class}
+use Rattle.rules.proofs.laws.Working.{View, Working}
 use Rattle.rules.proofs.laws.Links.{Exchanged}
 use Rattle.rules.proofs.laws.Fronted.{Same, under, in-over, nodup-over, fronted, others-but}
+use Rattle.rules.proofs.laws.Classes.{one-class}
 use Rattle.rules.proofs.laws.Rep.{keyAt, nextKey, LiveKey, Rep, rep-same, slots-apart, held, key-at}
 
 nodup-exchange : (a b : Key) (xs ys : List Key) → NoDup (b ∷ (ys ++ a ∷ xs)) → NoDup (a ∷ (ys ++ b ∷ xs))
@@ -71,13 +72,6 @@ module _ (v v′ : View) (a b : Key) (X : Exchanged (v .prev) (v .next) (v′ .p
       next-o : (x : Key) → LiveKey v a → LiveKey v b → LiveKey v x → a ≢ x → b ≢ x → nextKey v′ x ≡ nextKey v x
       next-o x la lb l n m = ap (keyAt v′) (X .n-o (x .slot) (slots-apart v x a l la (λ e. n (sym e))) (slots-apart v x b l lb (λ e. m (sym e)))) ∙ keeps (v .next (x .slot))
 
--- the keys of a run have one class
-run-class : (v : View) → Working v → (c : ℕ) (k z : Key) (xs : List Key) → LiveKey v k → v .class (k .slot) ≡ c → All (LiveKey v) xs → Walk (nextKey v) (nextKey v k) z xs → All (λ x. v .class (x .slot) ≡ c) xs
-run-class v S c k z [] l e a w = tt
-run-class v S c k z (x ∷ xs) l e a w =
-    let f : v .class (x .slot) ≡ c = sym (ap (λ (y : Key). v .class (y .slot)) (w .0)) ∙ next-class v S (k .slot) (l .live) ∙ e in
-    (f, run-class v S c x z xs (a .0) f (a .1) (w .1))
-
 module _ (v v′ : View) (S : Working v) (a b : Key) (X : Exchanged (v .prev) (v .next) (v′ .prev) (v′ .next) (a .slot) (b .slot)) (g-same : (s : ℕ) → v′ .gen s ≡ v .gen s)
     (la : LiveKey v a) (lb : LiveKey v b) (differ : v .class (a .slot) ≢ v .class (b .slot)) where
   pub rep-union : (h : List (List Key)) → Rep v h → Rep v′ (joinedRuns a b h)
@@ -91,9 +85,6 @@ module _ (v v′ : View) (S : Working v) (a b : Key) (X : Exchanged (v .prev) (v
       elsewhere : (ys : List Key) (hs : List (List Key)) → Rep v ((b ∷ ys) ∷ hs) → In a ((b ∷ ys) ++ flat hs) → In a (flat hs)
       elsewhere ys hs R m = go (in-parts a (b ∷ ys) (flat hs) m)
         where
-          mine : All (λ x. v .class (x .slot) ≡ v .class (b .slot)) (b ∷ ys)
-          mine = (refl, run-class v S (v .class (b .slot)) b b ys lb refl (all-parts (LiveKey v) (b ∷ ys) (flat hs) (R .live) .0 .1) (R .rings .0))
-
           go : In a (b ∷ ys) ⊎ In a (flat hs) → In a (flat hs)
-          go (inl k) = absurd (differ (all-at (λ x. v .class (x .slot) ≡ v .class (b .slot)) a (b ∷ ys) mine k))
+          go (inl k) = absurd (differ (all-at (λ x. v .class (x .slot) ≡ v .class (b .slot)) a (b ∷ ys) (one-class v S b ys hs R) k))
           go (inr k) = k
