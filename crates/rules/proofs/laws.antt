@@ -17,3 +17,6 @@ pub mod Sums
 pub mod Classes
 pub mod Histories
 pub mod Search
+pub mod Steps
+pub mod Sides
+pub mod Soundness

@@ -61,3 +61,23 @@ exact (x ∷ xs) g k u h w =
     rest : (s : ℕ) → upd g x 0 s ≢ 0 → Dec (s ≡ x) → In s xs
     rest s l (yes q) = absurd (l (rw (q, upd-same)))
     rest s l (no q) = skip-x s q (w s (rw (upd-other g x 0 s q) at l))
+
+-- there are no more of them than slots
+pub lives-le : (g : ℕ → ℕ) (k : ℕ) → lives g k ≤ k
+lives-le g zero = omega arith
+lives-le g (suc k) = omega (arith, lives-le g k, one (g (suc k)))
+  where
+    one : (n : ℕ) → sign n ≤ 1
+    one zero = omega arith
+    one (suc n) = omega arith
+
+-- different slots of a kind are no more than there are
+pub fewer : (xs : List ℕ) (g : ℕ → ℕ) (k : ℕ) → NoDup xs → All (λ s. (g s ≢ 0) × (0 < s) × (s ≤ k)) xs → length xs ≤ lives g k
+fewer [] g k u h = omega arith
+fewer (x ∷ xs) g k u h =
+    omega (
+      arith,
+      lives-in g x 0 k (h .0 .1) (h .0 .2),
+      sign-one (g x) (h .0 .0),
+      fewer xs (upd g x 0) k (u .1) (all-both (λ y o p. (rw (upd-other g x 0 y (λ q. o (sym q))) (p .0), p .1, p .2)) xs (u .0) (h .1)),
+    )
