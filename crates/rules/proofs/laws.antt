@@ -15,6 +15,7 @@ pub mod Fronted
 pub mod Rep
 pub mod Sums
 pub mod Classes
+pub mod Headers
 pub mod Histories
 pub mod Search
 pub mod Steps

@@ -11,7 +11,7 @@ use Rattle.rules.proofs.laws.Working.{View, Working, next-class}
 use Rattle.rules.proofs.laws.Keys.{out-not}
 use Rattle.rules.proofs.laws.Fronted.{fronted}
 use Rattle.rules.proofs.laws.Rep.{keyAt, nextKey, LiveKey, Rep, rep-same, held, key-at}
-use Rattle.rules.proofs.laws.Classes.{one-class, own-run}
+use Rattle.rules.proofs.laws.Classes.{first-run, one-class, own-run}
 
 -- the frames of the class `c` are freed, and the others keep generation and next
 pub record Gone (v v′ : View) (c : ℕ) : Type 0 where
@@ -43,13 +43,13 @@ module _ (v v′ : View) (S : Working v) (k : Key) (G : Gone v v′ (v .class (k
       others : All other (flat hs)
       others = all-of other (flat hs) (λ x m.
           let l = all-at (LiveKey v) x (flat hs) (all-parts (LiveKey v) (k ∷ xs) (flat hs) (R .live) .1) m in
-          (l, λ e. out-not x (k ∷ xs) (all-at (λ y. Out y (k ∷ xs)) x (flat hs) (across (k ∷ xs) (flat hs) (nodup-parts (k ∷ xs) (flat hs) (R .once) .2)) m) (own-run v S k xs hs R x l e)))
+          (l, λ e. out-not x (k ∷ xs) (all-at (λ y. Out y (k ∷ xs)) x (flat hs) (across (k ∷ xs) (flat hs) (nodup-parts (k ∷ xs) (flat hs) (R .once) .2)) m) (own-run v S k xs (first-run v (k ∷ xs) hs R) x l e)))
 
       whole : (s : ℕ) → v′ .gen s ≢ 0 → v .gen s ≢ 0 → (v .gen s ≢ 0 → v .class s ≢ v .class (k .slot)) → In (keyAt v′ s) (flat hs)
       whole s h l n = rw (key-at v v′ s (G .g-o s l (n l))) (go (in-parts (keyAt v s) (k ∷ xs) (flat hs) (R .whole s l)))
         where
           go : In (keyAt v s) (k ∷ xs) ⊎ In (keyAt v s) (flat hs) → In (keyAt v s) (flat hs)
-          go (inl m) = absurd (n l (all-at (λ x. v .class (x .slot) ≡ v .class (k .slot)) (keyAt v s) (k ∷ xs) (one-class v S k xs hs R) m))
+          go (inl m) = absurd (n l (all-at (λ x. v .class (x .slot) ≡ v .class (k .slot)) (keyAt v s) (k ∷ xs) (one-class v S k xs (first-run v (k ∷ xs) hs R)) m))
           go (inr m) = m
 
   pub rep-gone : (h : List (List Key)) → LiveKey v k → Rep v h → Rep v′ (runsBut k h)

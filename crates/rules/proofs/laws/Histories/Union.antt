@@ -11,7 +11,7 @@ use Rattle.rules.proofs.laws.Lists.{All, In, NoDup, Walk, all-both, all
 use Rattle.rules.proofs.laws.Working.{View, Working}
 use Rattle.rules.proofs.laws.Links.{Exchanged}
 use Rattle.rules.proofs.laws.Fronted.{Same, under, in-over, nodup-over, fronted, others-but}
-use Rattle.rules.proofs.laws.Classes.{one-class}
+use Rattle.rules.proofs.laws.Classes.{first-run, one-class}
 use Rattle.rules.proofs.laws.Rep.{keyAt, nextKey, LiveKey, Rep, rep-same, slots-apart, held, key-at}
 
 nodup-exchange : (a b : Key) (xs ys : List Key) → NoDup (b ∷ (ys ++ a ∷ xs)) → NoDup (a ∷ (ys ++ b ∷ xs))
@@ -86,5 +86,5 @@ module _ (v v′ : View) (S : Working v) (a b : Key) (X : Exchanged (v .prev) (v
       elsewhere ys hs R m = go (in-parts a (b ∷ ys) (flat hs) m)
         where
           go : In a (b ∷ ys) ⊎ In a (flat hs) → In a (flat hs)
-          go (inl k) = absurd (differ (all-at (λ x. v .class (x .slot) ≡ v .class (b .slot)) a (b ∷ ys) (one-class v S b ys hs R) k))
+          go (inl k) = absurd (differ (all-at (λ x. v .class (x .slot) ≡ v .class (b .slot)) a (b ∷ ys) (one-class v S b ys (first-run v (b ∷ ys) hs R)) k))
           go (inr k) = k
