@@ -21,3 +21,6 @@ pub mod Search
 pub mod Steps
 pub mod Sides
 pub mod Soundness
+pub mod Renumber
+pub mod Order
+pub mod Compress
