@@ -16,6 +16,7 @@ pub mod Rep
 pub mod Sums
 pub mod Classes
 pub mod Headers
+pub mod Good
 pub mod Histories
 pub mod Search
 pub mod Steps

@@ -7,7 +7,8 @@ use lib.ListN.{length, length-map}
 use Rattle.rules.specs.declared.Key.{Key}
 use Rattle.rules.specs.Notation.{flat}
 use Rattle.rules.proofs.laws.Lists.{All, In, NoDup, Cycle, all-both, all-at, all-of, all-parts, all-image, in-map, nodup-parts, walk-only, walk-image}
-use Rattle.rules.proofs.laws.Working.{View, Working, Ring, Frame, turn}
+use Rattle.rules.proofs.laws.Working.{View, Working, Frame}
+use Rattle.rules.proofs.laws.Soundness.{ring-at}
 use Rattle.rules.proofs.laws.Rep.{nextKey, LiveKey, Rep, slots-apart}
 
 abbrev pub slot : Key → ℕ
@@ -30,32 +31,28 @@ pub first-run : (v : View) (r : List Key) (hs : List (List Key)) → Rep v (r �
 first-run v r hs R = runs-of v (r ∷ hs) (R .rings) (R .live) (R .once) .0
 
 module _ (v : View) (S : Working v) where
-  -- the ring of a live slot, begun there
-  pub ring-from : (x : ℕ) → v .gen x ≢ 0 → Ring (v .gen) (v .class) (v .next) (v .class x) x (v .count (v .class x))
-  ring-from x h = turn (S .ring (v .class x) (S .class-live x h) .1) (record { live = h; mine = refl })
-
   -- live keys with one slot are one key
   pub in-slots : (k : Key) (ks : List Key) → LiveKey v k → All (LiveKey v) ks → In (k .slot) (map slot ks) → In k ks
   in-slots k (j ∷ js) l a (inl e) = inl (λ i. record { slot = e i; generation = (sym (l .gen) ∙ ap (v .gen) e ∙ a .0 .gen) i })
   in-slots k (j ∷ js) l a (inr m) = inr (in-slots k js l (a .1) m)
 
   module _ (k : Key) (xs : List Key) (r : Run v (k ∷ xs)) where
-    pub slots-run : map slot xs ≡ ring-from (k .slot) (r .live .0 .live) .rest
+    pub slots-run : map slot xs ≡ ring-at v S (k .slot) (r .live .0 .live) .rest
     slots-run =
-        let q = ring-from (k .slot) (r .live .0 .live) in
+        let q = ring-at v S (k .slot) (r .live .0 .live) in
         let o = all-both (λ x l n. slots-apart v k x (r .live .0) l n) xs (r .live .1) (r .once .0) in
         walk-only (v .next) (v .next (k .slot)) (k .slot) (map slot xs) (q .rest) (all-image slot (λ s. k .slot ≢ s) xs o) (q .once .0)
         (walk-image slot (nextKey v) (v .next) (λ x. refl) (nextKey v k) k xs (r .ring)) (q .round)
 
     pub run-size : suc (length xs) ≡ v .count (v .class (k .slot))
-    run-size = ap suc (sym (length-map xs slot) ∙ ap length slots-run) ∙ ring-from (k .slot) (r .live .0 .live) .sized
+    run-size = ap suc (sym (length-map xs slot) ∙ ap length slots-run) ∙ ring-at v S (k .slot) (r .live .0 .live) .sized
 
     pub one-class : All (λ x. v .class (x .slot) ≡ v .class (k .slot)) (k ∷ xs)
     one-class =
-        let q = ring-from (k .slot) (r .live .0 .live) in
+        let q = ring-at v S (k .slot) (r .live .0 .live) in
         all-of (λ x. v .class (x .slot) ≡ v .class (k .slot)) (k ∷ xs) (λ x m. all-at (Frame (v .gen) (v .class) (v .class (k .slot))) (x .slot) (k .slot ∷ q .rest) (q .frames) (rw slots-run at (in-map slot x (k ∷ xs) m)) .mine)
 
     pub own-run : (j : Key) → LiveKey v j → v .class (j .slot) ≡ v .class (k .slot) → In j (k ∷ xs)
     own-run j l e =
-        let q = ring-from (k .slot) (r .live .0 .live) in
+        let q = ring-at v S (k .slot) (r .live .0 .live) in
         in-slots j (k ∷ xs) l (r .live) (rw slots-run (q .whole (j .slot) (record { live = l .live; mine = e })))
