@@ -17,6 +17,8 @@ pub mod Sums
 pub mod Classes
 pub mod Headers
 pub mod Good
+pub mod Refused
+pub mod Follows
 pub mod Histories
 pub mod Search
 pub mod Steps
