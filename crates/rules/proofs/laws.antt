@@ -27,3 +27,5 @@ pub mod Soundness
 pub mod Renumber
 pub mod Order
 pub mod Compress
+pub mod Stored
+pub mod Insert
