@@ -29,3 +29,8 @@ pub mod Order
 pub mod Compress
 pub mod Stored
 pub mod Insert
+pub mod NewRun
+pub mod Rewritten
+pub mod Union
+pub mod Remove
+pub mod RemoveShared

@@ -1,0 +1,145 @@
+-- A whole ring is freed, along next; then its class slot. On columns: sound before, sound after.
+use mathlib.Core.Path.{_≡_, refl, sym, ap, _∙_}
+use mathlib.Core.Logic.{_≢_, _⊎_, inl, inr}
+use mathlib.Core.List.{List, [], _∷_, _++_}
+use Prim.Native.Nat.{ℕ, zero, suc, _+_, _-_, _≤_, _<_}
+use native.Mathlib.Omega.{arith}
+use native.Mathlib.Decide.{ℕ-discrete}
+use Rattle.rules.specs.declared.Pool.{Pool}
+use Rattle.rules.specs.declared.Head.{Head}
+use Rattle.rules.specs.Tables.{lastGeneration}
+use Rattle.rules.specs.Slots.{freed, raised}
+use Rattle.rules.proofs.laws.Lists.{All, In, Out, NoDup, all-map, all-both, all-at, all-of, out-by, in-dec}
+use Rattle.rules.proofs.laws.Columns.{upd, upd-same, upd-other}
+use Rattle.rules.proofs.laws.Pools.{Pooled, free}
+use Rattle.rules.proofs.laws.Working.{View, Links, Frame, Ring, Working, next-class, prev-class}
+use Rattle.rules.proofs.laws.Links.{live-ne, ring-frame}
+use Rattle.rules.proofs.laws.Remove.{raised-least, raised-most}
+
+-- 0 at each slot of the list
+abbrev pub wipe : List ℕ → (ℕ → ℕ) → ℕ → ℕ
+wipe [] f = f
+wipe (x ∷ xs) f = wipe xs (upd f x 0)
+
+-- each slot of the list names the one freed before it
+abbrev pub thread : List ℕ → ℕ → (ℕ → ℕ) → ℕ → ℕ
+thread [] r n = n
+thread (x ∷ xs) r n = thread xs x (upd n x r)
+
+abbrev pub freedAll : List ℕ → Pool → Pool
+freedAll [] p = p
+freedAll (x ∷ xs) p = freedAll xs (freed p x)
+
+wipe-out : (xs : List ℕ) (f : ℕ → ℕ) (s : ℕ) → Out s xs → wipe xs f s ≡ f s
+wipe-out [] f s o = refl
+wipe-out (x ∷ xs) f s o = wipe-out xs (upd f x 0) s (o .1) ∙ upd-other f x 0 s (o .0)
+
+wipe-zero : (xs : List ℕ) (f : ℕ → ℕ) (s : ℕ) → f s ≡ 0 → wipe xs f s ≡ 0
+wipe-zero [] f s e = e
+wipe-zero (x ∷ xs) f s e = wipe-zero xs (upd f x 0) s (go (ℕ-discrete s x))
+  where
+    go : Dec (s ≡ x) → upd f x 0 s ≡ 0
+    go (yes q) = rw (q, upd-same)
+    go (no q) = upd-other f x 0 s q ∙ e
+
+wipe-in : (xs : List ℕ) (f : ℕ → ℕ) (s : ℕ) → In s xs → wipe xs f s ≡ 0
+wipe-in (x ∷ xs) f s (inl e) = wipe-zero xs (upd f x 0) s (rw (e, upd-same))
+wipe-in (x ∷ xs) f s (inr m) = wipe-in xs (upd f x 0) s m
+
+thread-out : (xs : List ℕ) (r : ℕ) (n : ℕ → ℕ) (s : ℕ) → Out s xs → thread xs r n s ≡ n s
+thread-out [] r n s o = refl
+thread-out (x ∷ xs) r n s o = thread-out xs x (upd n x r) s (o .1) ∙ upd-other n x r s (o .0)
+
+-- all are freed
+pub pool-all : (xs : List ℕ) {p : Pool} {g n : ℕ → ℕ} → Pooled p g n → NoDup xs → All (λ s. g s ≢ 0) xs → Pooled (freedAll xs p) (wipe xs g) (thread xs (p .root) n)
+unfolding freed
+pool-all [] P u h = P
+pool-all (x ∷ xs) {p} {g} {n} P u h =
+    pool-all xs (free P x (h .0) (upd n x (p .root)) (upd-same n x (p .root)) (λ s e. upd-other n x (p .root) s (λ q. h .0 (rw q at e)))) (u .1)
+    (all-both {P = λ s. x ≢ s} {Q = λ s. g s ≢ 0} (λ s o l. rw (upd-other g x 0 s (λ q. o (sym q))) l) xs (u .0) (h .1))
+
+not-in : (s : ℕ) (xs : List ℕ) → (In s xs → ⊥) → Out s xs
+not-in s xs h = all-of (λ y. s ≢ y) xs (λ y m e. h (rw e m))
+
+unfoldable pub removeSharedV : View → ℕ → List ℕ → View
+removeSharedV v c xs = record {
+  head = record { elems = freedAll xs (v .head .elems); shared = freed (v .head .shared) c; generation = raised (v .head .generation) };
+  gen = wipe xs (v .gen);
+  pay = wipe xs (v .pay);
+  class = wipe xs (v .class);
+  prev = wipe xs (v .prev);
+  next = thread xs (v .head .elems .root) (v .next);
+  count = upd (v .count) c 0;
+  value = upd (v .value) c 0;
+  chain = upd (v .chain) c (v .head .shared .root);
+}
+
+module _ (v : View) (c x : ℕ) (S : Working v) (hc : v .count c ≢ 0) (r : Ring (v .gen) (v .class) (v .next) c x (v .count c)) where
+  abbrev pub xs : List ℕ
+  xs = x ∷ r .rest
+
+  pub removeShared-sound : Working (removeSharedV v c xs)
+  unfolding removeSharedV
+  removeShared-sound = record {
+    least = raised-least (v .head .generation);
+    most = raised-most (v .head .generation) (S .most);
+    elems = pool-all (x ∷ r .rest) (S .elems) (r .once) (all-map (λ s f. f .live) (x ∷ r .rest) (r .frames));
+    shared = free (S .shared) c hc (upd (v .chain) c (v .head .shared .root)) (upd-same (v .chain) c (v .head .shared .root)) (λ s e. upd-other (v .chain) c (v .head .shared .root) s (λ q. live-ne (v .count) hc e (sym q)));
+    gens = λ s. gens s (in-dec ℕ-discrete s xs);
+    zeros = λ s h. zeros s h (in-dec ℕ-discrete s xs);
+    value-zero = λ d. value-zero d (ℕ-discrete d c);
+    chain-zero = λ d. chain-zero d (ℕ-discrete d c);
+    links = record {
+      next-live = λ s h. let k = kept s h in rw (thread-out xs (v .head .elems .root) (v .next) s (k .out)) (stays (v .next s) (S .links .next-live s (k .live)) (k .next-out));
+      prev-live = λ s h. let k = kept s h in rw (wipe-out xs (v .prev) s (k .out)) (stays (v .prev s) (S .links .prev-live s (k .live)) (k .prev-out));
+      prev-next = λ s h. let k = kept s h in rw (thread-out xs (v .head .elems .root) (v .next) s (k .out), wipe-out xs (v .prev) (v .next s) (k .next-out)) (S .links .prev-next s (k .live));
+      next-prev = λ s h. let k = kept s h in rw (wipe-out xs (v .prev) s (k .out), thread-out xs (v .head .elems .root) (v .next) (v .prev s) (k .prev-out)) (S .links .next-prev s (k .live));
+    };
+    class-live = λ s h. let k = kept s h in rw (wipe-out xs (v .class) s (k .out), upd-other (v .count) c 0 (v .class s) (k .other)) (S .class-live s (k .live));
+    ring = λ d. ring d (ℕ-discrete d c);
+  }
+    where
+      Kept : ℕ → Type 0
+      Kept s = record { live : v .gen s ≢ 0; other : v .class s ≢ c; out : Out s xs; next-out : Out (v .next s) xs; prev-out : Out (v .prev s) xs }
+
+      outside : (s : ℕ) → v .class s ≢ c → Out s xs
+      outside s h = out-by (Frame (v .gen) (v .class) c) s xs (λ f. h (f .mine)) (r .frames)
+
+      kept : (s : ℕ) → wipe xs (v .gen) s ≢ 0 → Kept s
+      kept s h =
+          let out : Out s xs = not-in s xs (λ m. h (wipe-in xs (v .gen) s m)) in
+          let live : v .gen s ≢ 0 = rw (wipe-out xs (v .gen) s out) at h in
+          let other : v .class s ≢ c = λ e. h (wipe-in xs (v .gen) s (r .whole s (record { live = live; mine = e }))) in
+          record { live = live; other = other; out = out; next-out = outside (v .next s) (λ e. other (sym (next-class v S s live) ∙ e)); prev-out = outside (v .prev s) (λ e. other (sym (prev-class v S s live) ∙ e)) }
+
+      stays : (s : ℕ) → v .gen s ≢ 0 → Out s xs → wipe xs (v .gen) s ≢ 0
+      stays s h o = rw (wipe-out xs (v .gen) s o) h
+
+      gens : (s : ℕ) → Dec (In s xs) → wipe xs (v .gen) s ≤ lastGeneration
+      gens s (yes m) = rw (wipe-in xs (v .gen) s m) (omega arith)
+      gens s (no m) = rw (wipe-out xs (v .gen) s (not-in s xs m)) (S .gens s)
+
+      zeros : (s : ℕ) → wipe xs (v .gen) s ≡ 0 → Dec (In s xs) → (wipe xs (v .pay) s ≡ 0) × (wipe xs (v .class) s ≡ 0) × (wipe xs (v .prev) s ≡ 0)
+      zeros s h (yes m) = (wipe-in xs (v .pay) s m, wipe-in xs (v .class) s m, wipe-in xs (v .prev) s m)
+      zeros s h (no m) =
+          let z = S .zeros s (sym (wipe-out xs (v .gen) s (not-in s xs m)) ∙ h) in
+          (wipe-zero xs (v .pay) s (z .0), wipe-zero xs (v .class) s (z .1), wipe-zero xs (v .prev) s (z .2))
+
+      value-zero : (d : ℕ) → Dec (d ≡ c) → upd (v .count) c 0 d ≡ 0 → upd (v .value) c 0 d ≡ 0
+      value-zero d (yes e) h = rw (e, upd-same)
+      value-zero d (no e) h = rw upd-other (S .value-zero d (rw upd-other at h))
+
+      chain-zero : (d : ℕ) → Dec (d ≡ c) → upd (v .count) c 0 d ≢ 0 → upd (v .chain) c (v .head .shared .root) d ≡ 0
+      chain-zero d (yes e) h = absurd (h (rw (e, upd-same)))
+      chain-zero d (no e) h = rw upd-other (S .chain-zero d (rw upd-other at h))
+
+      ring : (d : ℕ) → Dec (d ≡ c) → upd (v .count) c 0 d ≢ 0 → (y : ℕ) × Ring (wipe xs (v .gen)) (wipe xs (v .class)) (thread xs (v .head .elems .root) (v .next)) d y (upd (v .count) c 0 d)
+      ring d (yes e) h = absurd (h (rw (e, upd-same)))
+      ring d (no e) h =
+          let l = S .ring d (rw upd-other at h) in (
+            l .0,
+            rw (upd-other (v .count) c 0 d e) (ring-frame (l .1)
+                (λ s f. let o = outside s (λ q. e (sym (f .mine) ∙ q)) in record { live = stays s (f .live) o; mine = wipe-out xs (v .class) s o ∙ f .mine })
+                (λ s f. let k = kept s (f .live) in record { live = k .live; mine = sym (wipe-out xs (v .class) s (k .out)) ∙ f .mine })
+                (λ s f. thread-out xs (v .head .elems .root) (v .next) s (outside s (λ q. e (sym (f .mine) ∙ q))))),
+          )
