@@ -1,0 +1,142 @@
+/* A recorder of image runs, as a host writes it in C: frames come in, runs are joined, a bad frame goes, a viewer lists a
+   run, the study is written out and the tables are ready for the next patient. Its tables are its own; nothing is
+   allocated. Built and run by host/c/run.sh, which compares what it prints with recorder.stdout. */
+#include "doorsedge.h"
+
+#include <inttypes.h>
+#include <stdio.h>
+#include <stdlib.h>
+
+#define FRAMES 64 /* the most frames of a study */
+#define RUNS 16   /* the most runs */
+
+typedef struct {
+    uint64_t slot, generation;
+} key;
+
+/* All that a recorder keeps of a study. The payload of a frame is the number of its picture, the shared value of a run the
+   number of its description. */
+typedef struct {
+    uint64_t head[DOORSEDGE_HEAD];
+    uint64_t elems[DOORSEDGE_ELEMS_LEN(FRAMES)];
+    uint64_t shared[DOORSEDGE_SHARED_LEN(RUNS)];
+} study;
+
+/* The tables' pointers and lengths, as every entry takes them. */
+#define TABLES(s) (s)->elems, DOORSEDGE_ELEMS_LEN(FRAMES), (s)->shared, DOORSEDGE_SHARED_LEN(RUNS)
+
+/* Refusals that a correct recorder never meets end it. */
+static void must(const char *what, uint64_t refusal) {
+    if (refusal != DOORSEDGE_OK) {
+        fprintf(stderr, "%s: refused %" PRIu64 "\n", what, refusal);
+        exit(1);
+    }
+}
+
+static void begin_study(study *s) {
+    must("fresh", doorsedge_fresh(s->head, FRAMES, RUNS, TABLES(s)));
+}
+
+static key begin_run(study *s, uint64_t picture, uint64_t description) {
+    uint64_t out[2];
+    must("new run", doorsedge_insert_new(s->head, TABLES(s), picture, description, out));
+    return (key){out[0], out[1]};
+}
+
+/* The frame after `last`. Running out of room is no fault of the recorder: the caller is told. */
+static int add_frame(study *s, key *last, uint64_t picture) {
+    uint64_t out[2];
+    uint64_t refusal = doorsedge_insert(s->head, TABLES(s), last->slot, last->generation, picture, out);
+    if (refusal == DOORSEDGE_NO_ELEMENT)
+        return 0;
+    must("insert", refusal);
+    *last = (key){out[0], out[1]};
+    return 1;
+}
+
+/* Joins two runs under one description; the other description comes back. */
+static uint64_t join_runs(study *s, key a, key b, key *kept) {
+    uint64_t out[4];
+    must("union", doorsedge_union(s->head, TABLES(s), a.slot, a.generation, b.slot, b.generation, out));
+    *kept = (key){out[1], out[2]};
+    printf("joined: description %" PRIu64 " goes, %" PRIu64 " frames changed their run\n", out[0], out[3]);
+    return out[0];
+}
+
+static void drop_frame(study *s, key k) {
+    uint64_t out[4];
+    must("remove", doorsedge_remove_element(s->head, TABLES(s), k.slot, k.generation, out));
+    printf("dropped picture %" PRIu64 "%s\n", out[0], out[1] ? ", the run's last" : "");
+}
+
+/* What a viewer shows of a run: its description and its pictures, from the given frame on. */
+static void show_run(const study *s, key k) {
+    uint64_t places[DOORSEDGE_LIST_LEN(FRAMES)], count[1], value[1], picture[1];
+    must("shared value", doorsedge_get_shared(s->head, TABLES(s), k.slot, k.generation, value));
+    must("list", doorsedge_list(s->head, TABLES(s), k.slot, k.generation, places, DOORSEDGE_LIST_LEN(FRAMES), count));
+    printf("run %" PRIu64 ":", value[0]);
+    for (uint64_t i = 0; i < count[0]; i++) {
+        const uint64_t *place = places + i * DOORSEDGE_PLACE;
+        must("get", doorsedge_get(s->head, TABLES(s), place[DOORSEDGE_PLACE_SLOT], place[DOORSEDGE_PLACE_GENERATION], picture));
+        printf(" %" PRIu64, picture[0]);
+    }
+    printf("\n");
+}
+
+/* The study leaves the tables, run by run; they are empty then, and old keys are dead. */
+static void write_out(study *s) {
+    uint64_t records[DOORSEDGE_DRAIN_LEN(FRAMES)], count[1];
+    must("drain all", doorsedge_drain_all(s->head, TABLES(s), records, DOORSEDGE_DRAIN_LEN(FRAMES), count));
+    for (uint64_t i = 0; i < count[0]; i++) {
+        const uint64_t *record = records + i * DOORSEDGE_RECORD;
+        printf("out %" PRIu64, record[DOORSEDGE_RECORD_PAYLOAD]);
+        if (record[DOORSEDGE_RECORD_LAST])
+            printf(", end of run %" PRIu64, record[DOORSEDGE_RECORD_VALUE]);
+        printf("\n");
+    }
+}
+
+int main(void) {
+    static study s;
+    begin_study(&s);
+
+    /* two runs come in at the same time */
+    key left = begin_run(&s, 100, 1), left_last = left;
+    key right = begin_run(&s, 200, 2), right_last = right;
+    for (uint64_t i = 1; i < 4; i++)
+        add_frame(&s, &left_last, 100 + i);
+    add_frame(&s, &right_last, 201);
+    show_run(&s, left);
+    show_run(&s, right);
+
+    /* they were one: the larger run's description stays */
+    key kept;
+    join_runs(&s, right_last, left_last, &kept);
+    show_run(&s, kept);
+
+    /* a bad frame goes, and its key is refused from then on */
+    drop_frame(&s, right);
+    uint64_t picture[1];
+    printf("its key then: refused %" PRIu64 "\n", doorsedge_get(s.head, TABLES(&s), right.slot, right.generation, picture));
+
+    /* there is room for 64 frames, and 59 more come in */
+    uint64_t came = 0;
+    while (add_frame(&s, &left_last, 300 + came))
+        came++;
+    printf("%" PRIu64 " more frames, then no room\n", came);
+
+    /* a table that was damaged on its way is not used */
+    s.elems[DOORSEDGE_FRAME_NEXT] ^= 1;
+    printf("damaged: refused %" PRIu64 "\n", doorsedge_check(s.head, TABLES(&s)));
+    s.elems[DOORSEDGE_FRAME_NEXT] ^= 1;
+    printf("mended: refused %" PRIu64 "\n", doorsedge_check(s.head, TABLES(&s)));
+
+    /* the next patient: a short study, written out */
+    uint64_t over[1];
+    must("clear", doorsedge_clear(s.head, TABLES(&s), over));
+    key only = begin_run(&s, 500, 5);
+    add_frame(&s, &only, 501);
+    begin_run(&s, 600, 6);
+    write_out(&s);
+    return 0;
+}

@@ -1,0 +1,16 @@
+#!/bin/sh
+# Builds the C example against the archive, runs it and compares what it prints. `run.sh mock` takes the plain Rust model
+# instead of the proved archive.
+set -eu
+cd "$(dirname "$0")/../.."
+out=target/cargo/c
+mkdir -p "$out"
+if [ "${1:-}" = mock ]; then
+    cargo build -q --release -p mock
+    archive=target/cargo/release/libmock.a
+else
+    archive=${DOORSEDGE_ARCHIVE:-target/staticlib}/libhost.a
+    [ -f "$archive" ] || { echo "$archive is missing: make it with 'rt staticlib host', or run with 'mock'" >&2; exit 1; }
+fi
+${CC:-cc} -std=c99 -O2 -Wall -Wextra -Werror -pedantic -Iinclude -o "$out/recorder" host/c/recorder.c "$archive" -lpthread -ldl -lm
+"$out/recorder" | diff -u host/c/recorder.stdout - && echo "host/c/recorder: as expected"

@@ -1,0 +1,149 @@
+//! Keys, refusals and what calls answer.
+
+use std::{error, fmt};
+
+/// The name of a frame: its slot, and the generation in which it was put there.
+///
+/// ```
+/// # fn main() -> Result<(), doorsedge::Refusal> {
+/// use doorsedge::{Arena, Key};
+///
+/// let key = Arena::fresh(1, 1)?.insert_new(10, 100)?;
+/// assert_eq!(key, Key::new(1, 1));
+/// assert_eq!((key.slot(), key.generation()), (1, 1));
+/// # Ok(())
+/// # }
+/// ```
+#[derive(Clone, Copy, PartialEq, Eq, PartialOrd, Ord, Hash, Debug)]
+pub struct Key {
+    slot: u64,
+    generation: u64,
+}
+
+impl Key {
+    /// A key from its numbers, as one that was saved. Any numbers will do: a call refuses one that is not live.
+    pub const fn new(slot: u64, generation: u64) -> Key {
+        Key { slot, generation }
+    }
+
+    pub const fn slot(self) -> u64 {
+        self.slot
+    }
+
+    pub const fn generation(self) -> u64 {
+        self.generation
+    }
+}
+
+/// Why a call was refused. Nothing has changed then.
+///
+/// ```
+/// use doorsedge::{Arena, Key, Refusal};
+///
+/// let refusal = Arena::fresh(0, 1).unwrap_err();
+/// assert_eq!((refusal, refusal.number()), (Refusal::Shape, 1));
+/// assert_eq!(Refusal::Dead.to_string(), "refused 3: a key handed in is not live");
+/// ```
+#[derive(Clone, Copy, PartialEq, Eq, Hash, Debug)]
+#[repr(u8)]
+pub enum Refusal {
+    /// A capacity is outside 1 to 65,536, or a table's length is not what its capacity asks.
+    Shape = 1,
+    /// The shape fits, but the state is not sound.
+    Unsound = 2,
+    /// A key handed in is not live.
+    Dead = 3,
+    /// Two keys that must be of different runs are of one.
+    SameClass = 4,
+    /// No element slot can be taken.
+    NoElement = 5,
+    /// No shared slot can be taken.
+    NoShared = 6,
+    /// A buffer has fewer places than needed.
+    Short = 7,
+}
+
+impl Refusal {
+    /// The number that the C entries give.
+    pub const fn number(self) -> u64 {
+        self as u64
+    }
+
+    /// What a C entry's result says.
+    pub(crate) fn test(number: u64) -> Result<(), Refusal> {
+        Err(match number {
+            0 => return Ok(()),
+            1 => Refusal::Shape,
+            2 => Refusal::Unsound,
+            3 => Refusal::Dead,
+            4 => Refusal::SameClass,
+            5 => Refusal::NoElement,
+            6 => Refusal::NoShared,
+            7 => Refusal::Short,
+            n => unreachable!("no entry gives {n}"),
+        })
+    }
+}
+
+impl fmt::Display for Refusal {
+    fn fmt(&self, f: &mut fmt::Formatter<'_>) -> fmt::Result {
+        let why = match self {
+            Refusal::Shape => "a capacity is outside its range, or a table's length does not fit it",
+            Refusal::Unsound => "the state is not sound",
+            Refusal::Dead => "a key handed in is not live",
+            Refusal::SameClass => "two keys are of one run",
+            Refusal::NoElement => "no element slot can be taken",
+            Refusal::NoShared => "no shared slot can be taken",
+            Refusal::Short => "a buffer has fewer places than needed",
+        };
+        write!(f, "refused {}: {why}", self.number())
+    }
+}
+
+impl error::Error for Refusal {}
+
+/// What [union](crate::Arena::union) answers.
+#[derive(Clone, Copy, PartialEq, Eq, Debug)]
+pub struct Joined {
+    /// The shared value that was removed.
+    pub was: u64,
+    /// The one of the two keys whose run's shared value is kept.
+    pub kept: Key,
+    /// How many frames changed their run: the smaller run's.
+    pub moved: u64,
+}
+
+/// What [remove_element](crate::Arena::remove_element) answers.
+#[derive(Clone, Copy, PartialEq, Eq, Debug)]
+pub struct Removed {
+    pub payload: u64,
+    /// The shared value, if that was the last frame of its run.
+    pub last: Option<u64>,
+    /// The generation went from its last number to 1: keys of removed frames may come to life again.
+    pub overflow: bool,
+}
+
+/// What [remove_shared](crate::Arena::remove_shared) answers.
+#[derive(Clone, Copy, PartialEq, Eq, Debug)]
+pub struct RemovedShared {
+    pub value: u64,
+    pub overflow: bool,
+}
+
+/// A frame that a drain took out.
+#[derive(Clone, Copy, PartialEq, Eq, Debug)]
+pub struct Record {
+    pub key: Key,
+    pub payload: u64,
+    /// The shared value, with the last frame of its run.
+    pub last: Option<u64>,
+    pub overflow: bool,
+}
+
+impl Record {
+    /// A record from the six numbers that a drain writes.
+    pub fn of(numbers: &[u64; 6]) -> Record {
+        let [slot, generation, payload, last, value, overflow] = *numbers;
+        Record { key: Key::new(slot, generation), payload, last: (last != 0).then_some(value), overflow: overflow != 0 }
+    }
+}

@@ -1,0 +1,342 @@
+//! The safe calls.
+
+use crate::answers::{Joined, Key, Record, Refusal, Removed, RemovedShared};
+use crate::sys::{self, Head};
+use crate::tables::{Borrowed, Owned, Tables};
+use crate::{PLACE, RECORD, elems_len, shared_len};
+
+/// Frames in runs. See the [crate's page](crate) for an example.
+#[derive(Clone, PartialEq, Eq, Debug)]
+pub struct Arena<T: Tables = Owned> {
+    tables: T,
+}
+
+/// Calls an entry: head and tables as pointers and lengths, then its own arguments.
+macro_rules! read {
+    ($self:ident, $entry:ident $(, $arg:expr)*) => {{
+        let (head, elems, shared) = ($self.tables.head(), $self.tables.elems(), $self.tables.shared());
+        // Safety: pointers and lengths are those of slices, and `out` and what is lent are borrowed mutably
+        Refusal::test(unsafe { sys::$entry(head, elems.as_ptr(), elems.len(), shared.as_ptr(), shared.len() $(, $arg)*) })
+    }};
+}
+macro_rules! change {
+    ($self:ident, $entry:ident $(, $arg:expr)*) => {{
+        let (head, elems, shared) = $self.tables.parts();
+        // Safety: as above; head and tables are borrowed mutably, each apart
+        Refusal::test(unsafe { sys::$entry(head, elems.as_mut_ptr(), elems.len(), shared.as_mut_ptr(), shared.len() $(, $arg)*) })
+    }};
+}
+
+impl Arena {
+    /// An empty arena with tables of its own. Capacities are 1 to 65,536.
+    pub fn fresh(elems: usize, shared: usize) -> Result<Arena, Refusal> {
+        let most = 65_536;
+        if elems > most || shared > most {
+            // so that no table is allocated that is refused anyway
+            return Err(Refusal::Shape);
+        }
+        let tables = Owned { head: [0; 9], elems: zeros(elems_len(elems)), shared: zeros(shared_len(shared)) };
+        let mut arena = Arena { tables };
+        arena.make_fresh(elems as u64, shared as u64)?;
+        Ok(arena)
+    }
+
+    /// An arena from numbers that were saved, if they are a sound state.
+    ///
+    /// ```
+    /// # fn main() -> Result<(), doorsedge::Refusal> {
+    /// use doorsedge::Arena;
+    ///
+    /// let mut arena = Arena::fresh(2, 2)?;
+    /// let key = arena.insert_new(10, 100)?;
+    /// let (head, elems, shared) = (*arena.head(), arena.elems().to_vec(), arena.shared().to_vec());
+    /// assert_eq!(Arena::restored(head, elems, shared)?.get(key), Ok(10));
+    /// # Ok(())
+    /// # }
+    /// ```
+    pub fn restored(head: Head, elems: Vec<u64>, shared: Vec<u64>) -> Result<Arena, Refusal> {
+        let arena = Arena { tables: Owned { head, elems: elems.into(), shared: shared.into() } };
+        arena.check()?;
+        Ok(arena)
+    }
+}
+
+fn zeros(len: usize) -> Box<[u64]> {
+    vec![0; len].into()
+}
+
+impl<'a> Arena<Borrowed<'a>> {
+    /// An arena in the caller's tables, if they hold a sound state.
+    pub fn borrowed(head: &'a mut Head, elems: &'a mut [u64], shared: &'a mut [u64]) -> Result<Self, Refusal> {
+        let arena = Arena { tables: Borrowed { head, elems, shared } };
+        arena.check()?;
+        Ok(arena)
+    }
+
+    /// An empty arena in the caller's tables, whatever they held.
+    pub fn fresh_in(
+        elems_capacity: u64,
+        shared_capacity: u64,
+        head: &'a mut Head,
+        elems: &'a mut [u64],
+        shared: &'a mut [u64],
+    ) -> Result<Self, Refusal> {
+        let mut arena = Arena { tables: Borrowed { head, elems, shared } };
+        arena.make_fresh(elems_capacity, shared_capacity)?;
+        Ok(arena)
+    }
+}
+
+impl<T: Tables> Arena<T> {
+    fn make_fresh(&mut self, elems_capacity: u64, shared_capacity: u64) -> Result<(), Refusal> {
+        let (head, elems, shared) = self.tables.parts();
+        let (e, s) = (elems.as_mut_ptr(), shared.as_mut_ptr());
+        // Safety: pointers and lengths are those of slices, borrowed mutably
+        Refusal::test(unsafe {
+            sys::doorsedge_fresh(head, elems_capacity, shared_capacity, e, elems.len(), s, shared.len())
+        })
+    }
+
+    // ---- the head's numbers
+
+    /// How many frames there are.
+    pub fn len(&self) -> u64 {
+        self.head()[3]
+    }
+
+    pub fn is_empty(&self) -> bool {
+        self.len() == 0
+    }
+
+    /// How many runs there are.
+    pub fn len_shared(&self) -> u64 {
+        self.head()[7]
+    }
+
+    pub fn capacity(&self) -> u64 {
+        self.head()[0]
+    }
+
+    pub fn capacity_shared(&self) -> u64 {
+        self.head()[4]
+    }
+
+    pub fn generation(&self) -> u64 {
+        self.head()[8]
+    }
+
+    pub fn head(&self) -> &Head {
+        self.tables.head()
+    }
+
+    pub fn elems(&self) -> &[u64] {
+        self.tables.elems()
+    }
+
+    pub fn shared(&self) -> &[u64] {
+        self.tables.shared()
+    }
+
+    // ---- reads
+
+    /// Whether head and tables are a sound state. Every other call tests it too.
+    pub fn check(&self) -> Result<(), Refusal> {
+        read!(self, doorsedge_check)
+    }
+
+    /// Whether the key is live.
+    pub fn contains(&self, key: Key) -> bool {
+        self.get(key).is_ok()
+    }
+
+    /// How many frames the key's run has.
+    pub fn len_surject(&self, key: Key) -> Result<u64, Refusal> {
+        let mut out = [0];
+        read!(self, doorsedge_len_surject, key.slot(), key.generation(), &mut out)?;
+        Ok(out[0])
+    }
+
+    /// Whether both keys are of one run.
+    pub fn in_same_surject(&self, key0: Key, key1: Key) -> Result<bool, Refusal> {
+        let mut out = [0];
+        read!(
+            self,
+            doorsedge_in_same_surject,
+            key0.slot(),
+            key0.generation(),
+            key1.slot(),
+            key1.generation(),
+            &mut out
+        )?;
+        Ok(out[0] == 1)
+    }
+
+    /// The frame's payload.
+    pub fn get(&self, key: Key) -> Result<u64, Refusal> {
+        let mut out = [0];
+        read!(self, doorsedge_get, key.slot(), key.generation(), &mut out)?;
+        Ok(out[0])
+    }
+
+    /// The shared value of the key's run.
+    pub fn get_shared(&self, key: Key) -> Result<u64, Refusal> {
+        let mut out = [0];
+        read!(self, doorsedge_get_shared, key.slot(), key.generation(), &mut out)?;
+        Ok(out[0])
+    }
+
+    /// The keys of the key's run, in ring order from it.
+    pub fn list(&self, key: Key) -> Result<Vec<Key>, Refusal> {
+        let mut places = vec![0; self.len_surject(key)? as usize * PLACE];
+        self.list_into(key, &mut places)?;
+        Ok(places.chunks_exact(PLACE).map(|place| Key::new(place[0], place[1])).collect())
+    }
+
+    /// The same into a lent buffer, slot and generation of each. Answers how many keys.
+    pub fn list_into(&self, key: Key, places: &mut [u64]) -> Result<u64, Refusal> {
+        let mut out = [0];
+        read!(self, doorsedge_list, key.slot(), key.generation(), places.as_mut_ptr(), places.len(), &mut out)?;
+        Ok(out[0])
+    }
+
+    // ---- sets
+
+    /// Stores a payload, and answers the old one.
+    pub fn set(&mut self, key: Key, payload: u64) -> Result<u64, Refusal> {
+        let mut out = [0];
+        change!(self, doorsedge_set, key.slot(), key.generation(), payload, &mut out)?;
+        Ok(out[0])
+    }
+
+    /// Stores the shared value of the key's run, and answers the old one.
+    pub fn set_shared(&mut self, key: Key, value: u64) -> Result<u64, Refusal> {
+        let mut out = [0];
+        change!(self, doorsedge_set_shared, key.slot(), key.generation(), value, &mut out)?;
+        Ok(out[0])
+    }
+
+    /// Stores the shared values of four different runs at once, and answers the old ones in key order.
+    ///
+    /// ```
+    /// # fn main() -> Result<(), doorsedge::Refusal> {
+    /// let mut arena = doorsedge::Arena::fresh(4, 4)?;
+    /// let mut keys = [doorsedge::Key::new(0, 0); 4];
+    /// for (n, key) in (1..).zip(&mut keys) {
+    ///     *key = arena.insert_new(n, 10 * n)?;
+    /// }
+    /// assert_eq!(arena.exchange_shared4(keys, [1, 2, 3, 4])?, [10, 20, 30, 40]);
+    /// assert_eq!(arena.get_shared(keys[2])?, 3);
+    /// # Ok(())
+    /// # }
+    /// ```
+    pub fn exchange_shared4(&mut self, keys: [Key; 4], values: [u64; 4]) -> Result<[u64; 4], Refusal> {
+        let [a, b, c, d] = keys.map(|key| (key.slot(), key.generation()));
+        let keys = [a.0, a.1, b.0, b.1, c.0, c.1, d.0, d.1];
+        let mut out = [0; 4];
+        change!(self, doorsedge_exchange_shared4, &keys, &values, &mut out)?;
+        Ok(out)
+    }
+
+    // ---- frames in and out
+
+    /// Begins a run of one frame.
+    pub fn insert_new(&mut self, payload: u64, value: u64) -> Result<Key, Refusal> {
+        let mut out = [0; 2];
+        change!(self, doorsedge_insert_new, payload, value, &mut out)?;
+        Ok(Key::new(out[0], out[1]))
+    }
+
+    /// Puts a frame into the key's run, immediately after the key's frame.
+    pub fn insert(&mut self, key: Key, payload: u64) -> Result<Key, Refusal> {
+        let mut out = [0; 2];
+        change!(self, doorsedge_insert, key.slot(), key.generation(), payload, &mut out)?;
+        Ok(Key::new(out[0], out[1]))
+    }
+
+    /// Joins two runs. The larger one's shared value is kept, or the first key's where they are equally large.
+    pub fn union(&mut self, key0: Key, key1: Key) -> Result<Joined, Refusal> {
+        let mut out = [0; 4];
+        change!(self, doorsedge_union, key0.slot(), key0.generation(), key1.slot(), key1.generation(), &mut out)?;
+        Ok(Joined { was: out[0], kept: Key::new(out[1], out[2]), moved: out[3] })
+    }
+
+    /// Removes a frame.
+    pub fn remove_element(&mut self, key: Key) -> Result<Removed, Refusal> {
+        let mut out = [0; 4];
+        change!(self, doorsedge_remove_element, key.slot(), key.generation(), &mut out)?;
+        Ok(Removed { payload: out[0], last: (out[1] == 1).then_some(out[2]), overflow: out[3] == 1 })
+    }
+
+    /// Removes the key's whole run.
+    pub fn remove_shared(&mut self, key: Key) -> Result<RemovedShared, Refusal> {
+        let mut out = [0; 2];
+        change!(self, doorsedge_remove_shared, key.slot(), key.generation(), &mut out)?;
+        Ok(RemovedShared { value: out[0], overflow: out[1] == 1 })
+    }
+
+    /// Removes the key's run frame by frame, in ring order from the key.
+    ///
+    /// ```
+    /// # fn main() -> Result<(), doorsedge::Refusal> {
+    /// let mut arena = doorsedge::Arena::fresh(2, 1)?;
+    /// let key = arena.insert_new(10, 100)?;
+    /// arena.insert(key, 11)?;
+    /// let out: Vec<_> = arena.drain(key)?.iter().map(|record| (record.payload, record.last)).collect();
+    /// assert_eq!(out, [(10, None), (11, Some(100))]);
+    /// # Ok(())
+    /// # }
+    /// ```
+    pub fn drain(&mut self, key: Key) -> Result<Vec<Record>, Refusal> {
+        let mut records = vec![0; self.len_surject(key)? as usize * RECORD];
+        self.drain_into(key, &mut records)?;
+        Ok(spread(&records))
+    }
+
+    /// The same into a lent buffer, six numbers a frame. Answers how many frames.
+    pub fn drain_into(&mut self, key: Key, records: &mut [u64]) -> Result<u64, Refusal> {
+        let mut out = [0];
+        change!(self, doorsedge_drain, key.slot(), key.generation(), records.as_mut_ptr(), records.len(), &mut out)?;
+        Ok(out[0])
+    }
+
+    // ---- all at once
+
+    /// Drains every run, the one with the lowest slot first, then clears.
+    pub fn drain_all(&mut self) -> Result<Vec<Record>, Refusal> {
+        self.check()?;
+        let mut records = vec![0; self.len() as usize * RECORD];
+        self.drain_all_into(&mut records)?;
+        Ok(spread(&records))
+    }
+
+    /// The same into a lent buffer, six numbers a frame. Answers how many frames.
+    pub fn drain_all_into(&mut self, records: &mut [u64]) -> Result<u64, Refusal> {
+        let mut out = [0];
+        change!(self, doorsedge_drain_all, records.as_mut_ptr(), records.len(), &mut out)?;
+        Ok(out[0])
+    }
+
+    /// Takes out everything. Answers whether the generation overflowed.
+    pub fn clear(&mut self) -> Result<bool, Refusal> {
+        let mut out = [0];
+        change!(self, doorsedge_clear, &mut out)?;
+        Ok(out[0] == 1)
+    }
+
+    /// Moves all frames down to the first slots, run by run. Every key is new then; with `reset` the generation becomes
+    /// 1, and old keys may come to life again. Answers whether the generation overflowed.
+    pub fn compress_canonical(&mut self, reset: bool) -> Result<bool, Refusal> {
+        self.compress_canonical_in(reset, &mut vec![0; self.elems().len()])
+    }
+
+    /// The same with lent scratch, [elems_len](crate::elems_len) numbers for the element capacity, left 0.
+    pub fn compress_canonical_in(&mut self, reset: bool, scratch: &mut [u64]) -> Result<bool, Refusal> {
+        let mut out = [0];
+        change!(self, doorsedge_compress_canonical, reset as u64, scratch.as_mut_ptr(), scratch.len(), &mut out)?;
+        Ok(out[0] == 1)
+    }
+}
+
+fn spread(records: &[u64]) -> Vec<Record> {
+    records.as_chunks::<RECORD>().0.iter().map(Record::of).collect()
+}

@@ -1,0 +1,76 @@
+//! Runs of frames in lent tables, with a shared value for each run, over the proved archive libhost.a.
+//!
+//! An [Arena] holds frames, each with a payload. Frames stand in rings, called runs, and each run has one shared value.
+//! Runs are begun, grown, joined and taken apart; a [Key] stays valid until its frame is removed. Every call tests the
+//! tables, and what it cannot do it refuses with a [Refusal], changing nothing.
+//!
+//! ```
+//! use doorsedge::{Arena, Refusal};
+//!
+//! # fn main() -> Result<(), Refusal> {
+//! let mut arena = Arena::fresh(4, 3)?;
+//! let first = arena.insert_new(10, 100)?;
+//! let second = arena.insert(first, 11)?;
+//! let other = arena.insert_new(20, 200)?;
+//!
+//! // the larger run's shared value is kept
+//! let joined = arena.union(other, first)?;
+//! assert_eq!((joined.was, joined.kept, joined.moved), (200, first, 1));
+//! assert_eq!(arena.list(first)?, [first, other, second]);
+//! assert_eq!(arena.union(other, first), Err(Refusal::SameClass));
+//!
+//! // a removed frame's key is dead
+//! assert_eq!(arena.remove_element(other)?.payload, 20);
+//! assert_eq!(arena.get(other), Err(Refusal::Dead));
+//! # Ok(())
+//! # }
+//! ```
+//!
+//! The tables may also be the caller's own, as one that maps a file or shares memory with C would have them:
+//!
+//! ```
+//! use doorsedge::{Arena, Refusal, elems_len, shared_len};
+//!
+//! # fn main() -> Result<(), Refusal> {
+//! let (mut head, mut elems, mut shared) = ([0; 9], [0; elems_len(2)], [0; shared_len(1)]);
+//! Arena::fresh_in(2, 1, &mut head, &mut elems, &mut shared)?.insert_new(7, 70)?;
+//!
+//! // later: whatever stands there now is tested before it is used
+//! let mut arena = Arena::borrowed(&mut head, &mut elems, &mut shared)?;
+//! assert_eq!(arena.insert_new(8, 80), Err(Refusal::NoShared));
+//!
+//! elems[1] ^= 1; // another payload: still sound
+//! assert!(Arena::borrowed(&mut head, &mut elems, &mut shared).is_ok());
+//! elems[4] = 2; // a link to a slot that is not live
+//! assert_eq!(Arena::borrowed(&mut head, &mut elems, &mut shared).err(), Some(Refusal::Unsound));
+//! # Ok(())
+//! # }
+//! ```
+
+mod answers;
+mod arena;
+pub mod sys;
+mod tables;
+
+pub use answers::{Joined, Key, Record, Refusal, Removed, RemovedShared};
+pub use arena::Arena;
+pub use tables::{Borrowed, Owned, Tables};
+
+/// Numbers to an element slot.
+pub const FRAME: usize = 5;
+/// Numbers to a shared slot.
+pub const HEADER: usize = 3;
+/// Numbers to a place that a listing writes.
+pub const PLACE: usize = 2;
+/// Numbers to a drain's record.
+pub const RECORD: usize = 6;
+
+/// How many numbers an element table of this capacity has; also the scratch that compression needs.
+pub const fn elems_len(capacity: usize) -> usize {
+    capacity * FRAME
+}
+
+/// How many numbers a shared table of this capacity has.
+pub const fn shared_len(capacity: usize) -> usize {
+    capacity * HEADER
+}

@@ -1,0 +1,228 @@
+//! The C entries as include/doorsedge.h has them. [Arena](crate::Arena) calls them safely.
+//!
+//! # Safety
+//!
+//! Each pointer is to memory of the size that the header says, is not null, and memory that a call may write does not
+//! overlap any other. Lengths are in numbers.
+
+#[cfg(feature = "mock")]
+use mock as _;
+
+pub type Head = [u64; 9];
+
+unsafe extern "C" {
+    pub fn doorsedge_fresh(
+        head: *mut Head,
+        elems_capacity: u64,
+        shared_capacity: u64,
+        elems: *mut u64,
+        elems_len: usize,
+        shared: *mut u64,
+        shared_len: usize,
+    ) -> u64;
+
+    pub fn doorsedge_check(
+        head: *const Head,
+        elems: *const u64,
+        elems_len: usize,
+        shared: *const u64,
+        shared_len: usize,
+    ) -> u64;
+
+    pub fn doorsedge_len_surject(
+        head: *const Head,
+        elems: *const u64,
+        elems_len: usize,
+        shared: *const u64,
+        shared_len: usize,
+        slot: u64,
+        generation: u64,
+        out: *mut [u64; 1],
+    ) -> u64;
+
+    pub fn doorsedge_in_same_surject(
+        head: *const Head,
+        elems: *const u64,
+        elems_len: usize,
+        shared: *const u64,
+        shared_len: usize,
+        slot0: u64,
+        generation0: u64,
+        slot1: u64,
+        generation1: u64,
+        out: *mut [u64; 1],
+    ) -> u64;
+
+    pub fn doorsedge_get(
+        head: *const Head,
+        elems: *const u64,
+        elems_len: usize,
+        shared: *const u64,
+        shared_len: usize,
+        slot: u64,
+        generation: u64,
+        out: *mut [u64; 1],
+    ) -> u64;
+
+    pub fn doorsedge_get_shared(
+        head: *const Head,
+        elems: *const u64,
+        elems_len: usize,
+        shared: *const u64,
+        shared_len: usize,
+        slot: u64,
+        generation: u64,
+        out: *mut [u64; 1],
+    ) -> u64;
+
+    pub fn doorsedge_list(
+        head: *const Head,
+        elems: *const u64,
+        elems_len: usize,
+        shared: *const u64,
+        shared_len: usize,
+        slot: u64,
+        generation: u64,
+        places: *mut u64,
+        places_len: usize,
+        out: *mut [u64; 1],
+    ) -> u64;
+
+    pub fn doorsedge_set(
+        head: *const Head,
+        elems: *mut u64,
+        elems_len: usize,
+        shared: *const u64,
+        shared_len: usize,
+        slot: u64,
+        generation: u64,
+        payload: u64,
+        out: *mut [u64; 1],
+    ) -> u64;
+
+    pub fn doorsedge_set_shared(
+        head: *const Head,
+        elems: *const u64,
+        elems_len: usize,
+        shared: *mut u64,
+        shared_len: usize,
+        slot: u64,
+        generation: u64,
+        value: u64,
+        out: *mut [u64; 1],
+    ) -> u64;
+
+    pub fn doorsedge_exchange_shared4(
+        head: *const Head,
+        elems: *const u64,
+        elems_len: usize,
+        shared: *mut u64,
+        shared_len: usize,
+        keys: *const [u64; 8],
+        values: *const [u64; 4],
+        out: *mut [u64; 4],
+    ) -> u64;
+
+    pub fn doorsedge_insert_new(
+        head: *mut Head,
+        elems: *mut u64,
+        elems_len: usize,
+        shared: *mut u64,
+        shared_len: usize,
+        payload: u64,
+        value: u64,
+        out: *mut [u64; 2],
+    ) -> u64;
+
+    pub fn doorsedge_insert(
+        head: *mut Head,
+        elems: *mut u64,
+        elems_len: usize,
+        shared: *mut u64,
+        shared_len: usize,
+        slot: u64,
+        generation: u64,
+        payload: u64,
+        out: *mut [u64; 2],
+    ) -> u64;
+
+    pub fn doorsedge_union(
+        head: *mut Head,
+        elems: *mut u64,
+        elems_len: usize,
+        shared: *mut u64,
+        shared_len: usize,
+        slot0: u64,
+        generation0: u64,
+        slot1: u64,
+        generation1: u64,
+        out: *mut [u64; 4],
+    ) -> u64;
+
+    pub fn doorsedge_remove_element(
+        head: *mut Head,
+        elems: *mut u64,
+        elems_len: usize,
+        shared: *mut u64,
+        shared_len: usize,
+        slot: u64,
+        generation: u64,
+        out: *mut [u64; 4],
+    ) -> u64;
+
+    pub fn doorsedge_remove_shared(
+        head: *mut Head,
+        elems: *mut u64,
+        elems_len: usize,
+        shared: *mut u64,
+        shared_len: usize,
+        slot: u64,
+        generation: u64,
+        out: *mut [u64; 2],
+    ) -> u64;
+
+    pub fn doorsedge_drain(
+        head: *mut Head,
+        elems: *mut u64,
+        elems_len: usize,
+        shared: *mut u64,
+        shared_len: usize,
+        slot: u64,
+        generation: u64,
+        records: *mut u64,
+        records_len: usize,
+        out: *mut [u64; 1],
+    ) -> u64;
+
+    pub fn doorsedge_drain_all(
+        head: *mut Head,
+        elems: *mut u64,
+        elems_len: usize,
+        shared: *mut u64,
+        shared_len: usize,
+        records: *mut u64,
+        records_len: usize,
+        out: *mut [u64; 1],
+    ) -> u64;
+
+    pub fn doorsedge_clear(
+        head: *mut Head,
+        elems: *mut u64,
+        elems_len: usize,
+        shared: *mut u64,
+        shared_len: usize,
+        out: *mut [u64; 1],
+    ) -> u64;
+
+    pub fn doorsedge_compress_canonical(
+        head: *mut Head,
+        elems: *mut u64,
+        elems_len: usize,
+        shared: *mut u64,
+        shared_len: usize,
+        reset: u64,
+        scratch: *mut u64,
+        scratch_len: usize,
+        out: *mut [u64; 1],
+    ) -> u64;
+}

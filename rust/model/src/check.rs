@@ -1,0 +1,112 @@
+//! The soundness check in plain Rust, linear in the extents plus capacity.
+//!
+//! Slots ascending: a live one whose class is not yet marked begins a ring, which is walked once. Where previous undoes
+//! next, a walk that closes meets no frame twice; the live numbers then say that every frame and header was met.
+
+use crate::layout::*;
+
+/// Whether a state of fitting shape is sound.
+pub fn sound(head: &Head, elems: &[u64], shared: &[u64]) -> bool {
+    in_range(head.generation)
+        && head.elems.extent <= head.elems.capacity
+        && head.shared.extent <= head.shared.capacity
+        && headers_ok(head, shared)
+        && elems[head.elems.extent as usize * FRAME..].iter().all(|&n| n == 0)
+        && chain_ok(&head.shared, shared, HEADER, NEXT_FREE)
+        && chain_ok(&head.elems, elems, FRAME, NEXT)
+        && rings_ok(head, elems, shared)
+}
+
+fn in_range(generation: u64) -> bool {
+    (1..=LAST_GENERATION).contains(&generation)
+}
+
+/// The zeros and the live number of the shared slots.
+fn headers_ok(head: &Head, shared: &[u64]) -> bool {
+    let (used, past) = shared.split_at(head.shared.extent as usize * HEADER);
+    let mut live = 0;
+    for row in used.chunks_exact(HEADER) {
+        if row[COUNT] == 0 {
+            if row[VALUE] != 0 {
+                return false;
+            }
+        } else if row[NEXT_FREE] != 0 {
+            return false;
+        } else {
+            live += 1;
+        }
+    }
+    live == head.shared.live && past.iter().all(|&n| n == 0)
+}
+
+/// A free chain that does not end within as many steps as the extent meets some slot twice.
+fn chain_ok(pool: &Pool, table: &[u64], width: usize, link: usize) -> bool {
+    let (mut slot, mut left) = (pool.root, pool.extent);
+    while slot != 0 {
+        if left == 0 || slot > pool.extent {
+            return false;
+        }
+        let row = &table[(slot as usize - 1) * width..][..width];
+        if row[0] != 0 {
+            return false;
+        }
+        slot = row[link];
+        left -= 1;
+    }
+    true
+}
+
+fn rings_ok(head: &Head, elems: &[u64], shared: &[u64]) -> bool {
+    let mut marked = [0u64; MOST_SLOTS as usize / 64];
+    let (mut live, mut met, mut rings) = (0, 0, 0);
+    for slot in 1..=head.elems.extent {
+        let row = frame(elems, slot);
+        if row[GENERATION] == 0 {
+            if row[PAYLOAD] != 0 || row[CLASS] != 0 || row[PREVIOUS] != 0 {
+                return false;
+            }
+            continue;
+        }
+        live += 1;
+        let class = row[CLASS];
+        if class == 0 || class > head.shared.extent {
+            return false;
+        }
+        let (word, bit) = ((class - 1) as usize / 64, (class - 1) % 64);
+        if marked[word] >> bit & 1 == 1 {
+            continue;
+        }
+        marked[word] |= 1 << bit;
+        let count = shared[(class as usize - 1) * HEADER + COUNT];
+        if !ring_ok(elems, head.elems.extent, slot, class, count) {
+            return false;
+        }
+        met += count;
+        rings += 1;
+    }
+    live == head.elems.live && met == live && rings == head.shared.live
+}
+
+fn frame(elems: &[u64], slot: u64) -> &[u64; FRAME] {
+    elems[(slot as usize - 1) * FRAME..][..FRAME].try_into().unwrap()
+}
+
+/// The start comes back for the first time after exactly `count` frames, all of one class, previous undoing next.
+fn ring_ok(elems: &[u64], extent: u64, start: u64, class: u64, count: u64) -> bool {
+    let (mut slot, mut left) = (start, count);
+    loop {
+        let row = frame(elems, slot);
+        if left == 0 || !in_range(row[GENERATION]) || row[CLASS] != class {
+            return false;
+        }
+        let next = row[NEXT];
+        if next == 0 || next > extent || frame(elems, next)[PREVIOUS] != slot {
+            return false;
+        }
+        left -= 1;
+        if next == start {
+            return left == 0;
+        }
+        slot = next;
+    }
+}

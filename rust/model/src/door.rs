@@ -1,0 +1,151 @@
+//! The host's calls over numbers: shape and soundness first, then the call. This is what the C entries do.
+
+use crate::{layout::*, rows::Rows};
+
+/// A call with its arguments.
+#[derive(Clone, Copy, PartialEq, Eq, Debug)]
+pub enum Call {
+    Fresh { elems: u64, shared: u64 },
+    Check,
+    LenSurject(Key),
+    InSameSurject(Key, Key),
+    Get(Key),
+    GetShared(Key),
+    Set(Key, u64),
+    SetShared(Key, u64),
+    ExchangeShared4([Key; 4], [u64; 4]),
+    InsertNew { payload: u64, value: u64 },
+    Insert(Key, u64),
+    Union(Key, Key),
+    RemoveElement(Key),
+    RemoveShared(Key),
+    List(Key),
+    Drain(Key),
+    DrainAll,
+    Clear,
+    CompressCanonical { reset: u64 },
+}
+
+/// How many kinds of calls there are.
+pub const KINDS: usize = 19;
+
+impl Call {
+    /// The entry's name in C, without its prefix; and how many numbers its `out` has.
+    pub fn name(&self) -> (&'static str, usize) {
+        match self {
+            Call::Fresh { .. } => ("fresh", 0),
+            Call::Check => ("check", 0),
+            Call::LenSurject(_) => ("len_surject", 1),
+            Call::InSameSurject(..) => ("in_same_surject", 1),
+            Call::Get(_) => ("get", 1),
+            Call::GetShared(_) => ("get_shared", 1),
+            Call::Set(..) => ("set", 1),
+            Call::SetShared(..) => ("set_shared", 1),
+            Call::ExchangeShared4(..) => ("exchange_shared4", 4),
+            Call::InsertNew { .. } => ("insert_new", 2),
+            Call::Insert(..) => ("insert", 2),
+            Call::Union(..) => ("union", 4),
+            Call::RemoveElement(_) => ("remove_element", 4),
+            Call::RemoveShared(_) => ("remove_shared", 2),
+            Call::List(_) => ("list", 1),
+            Call::Drain(_) => ("drain", 1),
+            Call::DrainAll => ("drain_all", 1),
+            Call::Clear => ("clear", 1),
+            Call::CompressCanonical { .. } => ("compress_canonical", 1),
+        }
+    }
+}
+
+/// Which soundness test the door makes: [crate::check::sound], or [crate::sets::sound] for a reference.
+pub type Sound = fn(&Head, &[u64], &[u64]) -> bool;
+
+/// Makes a call on the numbers of a host. Answers 0, or the refusal's number with nothing changed.
+pub fn run(
+    sound: Sound,
+    head: &mut [u64; HEAD],
+    elems: &mut [u64],
+    shared: &mut [u64],
+    call: &Call,
+    lent: &mut [u64],
+    out: &mut [u64],
+) -> u64 {
+    let mut next = Head::of(head);
+    let said = match call {
+        Call::Fresh { elems: e, shared: s } => fresh(&mut next, elems, shared, *e, *s),
+        _ => enter(sound, &mut next, elems, shared, |rows| said(rows, call, lent)),
+    };
+    match said {
+        Ok(values) => {
+            if *head != next.numbers() {
+                *head = next.numbers();
+            }
+            let count = call.name().1;
+            out[..count].copy_from_slice(&values[..count]);
+            0
+        }
+        Err(refusal) => refusal as u64,
+    }
+}
+
+fn fresh(head: &mut Head, elems: &mut [u64], shared: &mut [u64], e: u64, s: u64) -> Result<[u64; 4], Refusal> {
+    if !fits(e, FRAME, elems.len()) || !fits(s, HEADER, shared.len()) {
+        return Err(Refusal::Shape);
+    }
+    elems.fill(0);
+    shared.fill(0);
+    *head = Head::fresh(e, s);
+    Ok([0; 4])
+}
+
+/// Refusals 1 and 2, then the call.
+pub fn enter<T>(
+    sound: Sound,
+    head: &mut Head,
+    elems: &mut [u64],
+    shared: &mut [u64],
+    call: impl FnOnce(&mut Rows) -> Result<T, Refusal>,
+) -> Result<T, Refusal> {
+    if !fits(head.elems.capacity, FRAME, elems.len()) || !fits(head.shared.capacity, HEADER, shared.len()) {
+        return Err(Refusal::Shape);
+    }
+    if !sound(head, elems, shared) {
+        return Err(Refusal::Unsound);
+    }
+    call(&mut Rows { head, elems, shared })
+}
+
+/// The call on a sound state, its answer as the numbers of `out`.
+fn said(rows: &mut Rows, call: &Call, lent: &mut [u64]) -> Result<[u64; 4], Refusal> {
+    let one = |n: u64| [n, 0, 0, 0];
+    let key = |k: Key| [k.slot, k.generation, 0, 0];
+    Ok(match *call {
+        Call::Fresh { .. } => unreachable!("fresh has its own door"),
+        Call::Check => [0; 4],
+        Call::LenSurject(k) => one(rows.len_surject(k)?),
+        Call::InSameSurject(j, k) => one(rows.in_same_surject(j, k)? as u64),
+        Call::Get(k) => one(rows.get(k)?),
+        Call::GetShared(k) => one(rows.get_shared(k)?),
+        Call::Set(k, payload) => one(rows.set(k, payload)?),
+        Call::SetShared(k, value) => one(rows.set_shared(k, value)?),
+        Call::ExchangeShared4(keys, values) => rows.exchange_shared4(keys, values)?,
+        Call::InsertNew { payload, value } => key(rows.insert_new(payload, value)?),
+        Call::Insert(k, payload) => key(rows.insert(k, payload)?),
+        Call::Union(j, k) => {
+            let joined = rows.union(j, k)?;
+            [joined.was, joined.kept.slot, joined.kept.generation, joined.moved]
+        }
+        Call::RemoveElement(k) => {
+            let out = rows.remove_element(k)?;
+            [out.payload, out.value.is_some() as u64, out.value.unwrap_or(0), out.overflow as u64]
+        }
+        Call::RemoveShared(k) => {
+            let (value, overflow) = rows.remove_shared(k)?;
+            [value, overflow as u64, 0, 0]
+        }
+        Call::List(k) => one(rows.list(k, lent)?),
+        Call::Drain(k) => one(rows.drain(k, lent)?),
+        Call::DrainAll => one(rows.drain_all(lent)?),
+        Call::Clear => one(rows.clear() as u64),
+        Call::CompressCanonical { reset } => one(rows.compress_canonical(reset != 0, lent)? as u64),
+    })
+}

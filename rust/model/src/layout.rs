@@ -1,0 +1,101 @@
+//! Head, keys, refusals, and how the numbers lie in the tables.
+
+/// Numbers to a head.
+pub const HEAD: usize = 9;
+/// Numbers to an element slot: generation, payload, class, previous, next.
+pub const FRAME: usize = 5;
+/// Numbers to a shared slot: count, value, next free.
+pub const HEADER: usize = 3;
+/// Numbers to a place that a listing writes: slot, generation.
+pub const PLACE: usize = 2;
+/// Numbers to a drain's record: slot, generation, payload, last, value, overflow.
+pub const RECORD: usize = 6;
+
+pub const GENERATION: usize = 0;
+pub const PAYLOAD: usize = 1;
+pub const CLASS: usize = 2;
+pub const PREVIOUS: usize = 3;
+pub const NEXT: usize = 4;
+
+pub const COUNT: usize = 0;
+pub const VALUE: usize = 1;
+pub const NEXT_FREE: usize = 2;
+
+pub const MOST_SLOTS: u64 = 65_536;
+pub const LAST_GENERATION: u64 = 4_294_967_295;
+
+#[derive(Clone, Copy, PartialEq, Eq, Debug)]
+pub struct Pool {
+    pub capacity: u64,
+    pub extent: u64,
+    pub root: u64,
+    pub live: u64,
+}
+
+#[derive(Clone, Copy, PartialEq, Eq, Debug)]
+pub struct Head {
+    pub elems: Pool,
+    pub shared: Pool,
+    pub generation: u64,
+}
+
+#[derive(Clone, Copy, PartialEq, Eq, Debug)]
+pub struct Key {
+    pub slot: u64,
+    pub generation: u64,
+}
+
+/// Numbers given on refusal.
+#[derive(Clone, Copy, PartialEq, Eq, Debug)]
+pub enum Refusal {
+    Shape = 1,
+    Unsound = 2,
+    Dead = 3,
+    SameClass = 4,
+    NoElement = 5,
+    NoShared = 6,
+    Short = 7,
+}
+
+impl Pool {
+    pub fn fresh(capacity: u64) -> Pool {
+        Pool { capacity, extent: 0, root: 0, live: 0 }
+    }
+
+    /// Refusals 5 and 6: no slot can be taken.
+    pub fn is_full(&self) -> bool {
+        self.root == 0 && self.extent == self.capacity
+    }
+}
+
+impl Head {
+    pub fn fresh(elems: u64, shared: u64) -> Head {
+        Head { elems: Pool::fresh(elems), shared: Pool::fresh(shared), generation: 1 }
+    }
+
+    pub fn of(numbers: &[u64; HEAD]) -> Head {
+        let [capacity, extent, root, live, capacity1, extent1, root1, live1, generation] = *numbers;
+        Head {
+            elems: Pool { capacity, extent, root, live },
+            shared: Pool { capacity: capacity1, extent: extent1, root: root1, live: live1 },
+            generation,
+        }
+    }
+
+    pub fn numbers(&self) -> [u64; HEAD] {
+        let (e, s) = (self.elems, self.shared);
+        [e.capacity, e.extent, e.root, e.live, s.capacity, s.extent, s.root, s.live, self.generation]
+    }
+
+    /// After the last generation comes 1. Answers whether it overflowed.
+    pub fn raise(&mut self) -> bool {
+        let over = self.generation == LAST_GENERATION;
+        self.generation = if over { 1 } else { self.generation + 1 };
+        over
+    }
+}
+
+/// Refusals 1: a capacity is in its range and the table as long as it asks.
+pub fn fits(capacity: u64, width: usize, length: usize) -> bool {
+    (1..=MOST_SLOTS).contains(&capacity) && length as u64 == capacity * width as u64
+}

@@ -1,0 +1,21 @@
+//! Document 01 in plain Rust, written from its text alone.
+//!
+//! It is the reference that the archive's tests compare with, slot by slot, and the plain rows arena that the
+//! benchmark measures against. It shares no code with the proved crates.
+//!
+//! - [layout]: head, keys, refusals, and how the numbers lie in the tables
+//! - [rows]: the calls on a sound state
+//! - [whole]: the calls on a whole ring or on all of them
+//! - [check]: the soundness check, linear
+//! - [sets]: soundness sentence by sentence, by sets, to test the check with
+//! - [door]: the host's calls: shape and soundness first
+
+pub mod check;
+pub mod door;
+pub mod layout;
+pub mod rows;
+pub mod sets;
+pub mod whole;
+
+pub use layout::{FRAME, HEAD, HEADER, Head, Key, PLACE, Pool, RECORD, Refusal};
+pub use rows::{Joined, Removed, Rows};

@@ -1,0 +1,103 @@
+//! Soundness sentence by sentence, as document 01's "Tables and head" has it, by sets: slow, and no algorithm in it.
+
+use crate::layout::*;
+use std::collections::{BTreeMap, BTreeSet};
+
+/// Whether a state of fitting shape is sound.
+pub fn sound(head: &Head, elems: &[u64], shared: &[u64]) -> bool {
+    let (e, s) = (Side::new(&head.elems, elems, FRAME, NEXT), Side::new(&head.shared, shared, HEADER, NEXT_FREE));
+    // the generation is in range; each extent is at most its capacity
+    if !in_range(head.generation) || e.pool.extent > e.pool.capacity || s.pool.extent > s.pool.capacity {
+        return false;
+    }
+    let (frames, headers) = (e.live(), s.live());
+    // the live numbers equal the live slots
+    if e.pool.live != frames.len() as u64 || s.pool.live != headers.len() as u64 {
+        return false;
+    }
+    e.chain_ok() && s.chain_ok() && e.zeros_ok() && s.zeros_ok()
+        // live shared slots hold zero where said
+        && headers.iter().all(|&c| s.at(c, NEXT_FREE) == 0)
+        // a live slot's generation is in range
+        && frames.iter().all(|&x| in_range(e.at(x, GENERATION)))
+        && links_ok(&e, &frames)
+        // every frame's class slot is live
+        && frames.iter().all(|&x| headers.contains(&e.at(x, CLASS)))
+        && rings_ok(&e, &s, &frames, &headers)
+}
+
+fn in_range(generation: u64) -> bool {
+    (1..=LAST_GENERATION).contains(&generation)
+}
+
+/// One of the two tables. Its first field is 0 when a slot is free, and `link` then holds the next free slot.
+struct Side<'a> {
+    pool: &'a Pool,
+    table: &'a [u64],
+    width: usize,
+    link: usize,
+}
+
+impl<'a> Side<'a> {
+    fn new(pool: &'a Pool, table: &'a [u64], width: usize, link: usize) -> Self {
+        Side { pool, table, width, link }
+    }
+
+    fn at(&self, slot: u64, field: usize) -> u64 {
+        self.table[(slot as usize - 1) * self.width + field]
+    }
+
+    fn live(&self) -> BTreeSet<u64> {
+        (1..=self.pool.extent).filter(|&slot| self.at(slot, 0) != 0).collect()
+    }
+
+    /// The free chain starts at its root, stays within the extent, meets only free slots, none twice, and ends at 0.
+    fn chain_ok(&self) -> bool {
+        let mut met = BTreeSet::new();
+        let mut slot = self.pool.root;
+        while slot != 0 {
+            if slot > self.pool.extent || self.at(slot, 0) != 0 || !met.insert(slot) {
+                return false;
+            }
+            slot = self.at(slot, self.link);
+        }
+        true
+    }
+
+    /// Free slots and slots past the extent hold zeros where said.
+    fn zeros_ok(&self) -> bool {
+        (1..=self.pool.capacity).all(|slot| {
+            let past = slot > self.pool.extent;
+            let free = !past && self.at(slot, 0) == 0;
+            (0..self.width).all(|field| self.at(slot, field) == 0 || !(past || free && field != self.link))
+        })
+    }
+}
+
+/// Previous and next of live slots stay among live slots and undo each other.
+fn links_ok(e: &Side, frames: &BTreeSet<u64>) -> bool {
+    frames.iter().all(|&x| {
+        let (previous, next) = (e.at(x, PREVIOUS), e.at(x, NEXT));
+        frames.contains(&previous) && frames.contains(&next) && e.at(next, PREVIOUS) == x && e.at(previous, NEXT) == x
+    })
+}
+
+/// All frames of a ring have one class slot; two rings never share one; every live shared slot has a ring, and its count
+/// is that ring's size.
+fn rings_ok(e: &Side, s: &Side, frames: &BTreeSet<u64>, headers: &BTreeSet<u64>) -> bool {
+    let mut left = frames.clone();
+    let mut size_of = BTreeMap::new();
+    while let Some(&start) = left.iter().next_back() {
+        let class = e.at(start, CLASS);
+        let mut ring = BTreeSet::new();
+        let mut x = start;
+        while ring.insert(x) {
+            left.remove(&x);
+            x = e.at(x, NEXT);
+        }
+        if ring.iter().any(|&x| e.at(x, CLASS) != class) || size_of.insert(class, ring.len() as u64).is_some() {
+            return false;
+        }
+    }
+    headers.iter().all(|c| size_of.get(c) == Some(&s.at(*c, COUNT)))
+}

@@ -1,0 +1,157 @@
+//! Document 01's worked numbers, P1 to P12, and its traps, on the model.
+
+use model::door::{Call, run};
+use model::{FRAME, HEADER, Key, check, sets};
+
+struct Host {
+    head: [u64; 9],
+    elems: Vec<u64>,
+    shared: Vec<u64>,
+}
+
+impl Host {
+    fn fresh(elems: u64, shared: u64) -> Host {
+        let mut host = Host {
+            head: [0; 9],
+            elems: vec![7; elems as usize * FRAME],
+            shared: vec![7; shared as usize * HEADER],
+        };
+        assert_eq!(host.call(Call::Fresh { elems, shared }), (0, vec![]));
+        host
+    }
+
+    fn lent(&mut self, call: Call, lent: &mut [u64]) -> (u64, Vec<u64>) {
+        let mut out = [0; 4];
+        let number = run(sets::sound, &mut self.head, &mut self.elems, &mut self.shared, &call, lent, &mut out);
+        let count = if number == 0 { call.name().1 } else { 0 };
+        (number, out[..count].to_vec())
+    }
+
+    fn call(&mut self, call: Call) -> (u64, Vec<u64>) {
+        self.lent(call, &mut [])
+    }
+
+    fn ring(&mut self, k: Key) -> Vec<u64> {
+        let mut places = vec![0; 2 * 8];
+        let (number, out) = self.lent(Call::List(k), &mut places);
+        assert_eq!(number, 0);
+        places.chunks(2).take(out[0] as usize).map(|place| place[0]).collect()
+    }
+}
+
+fn key(slot: u64, generation: u64) -> Key {
+    Key { slot, generation }
+}
+
+fn new_run(payload: u64, value: u64) -> Call {
+    Call::InsertNew { payload, value }
+}
+
+#[test]
+fn p1_to_p10() {
+    let mut host = Host::fresh(4, 3);
+    assert_eq!(host.call(new_run(10, 100)), (0, vec![1, 1]));
+    assert_eq!(host.call(Call::Insert(key(1, 1), 11)), (0, vec![2, 1]));
+    assert_eq!(host.call(Call::Insert(key(1, 1), 12)), (0, vec![3, 1]));
+    assert_eq!(host.ring(key(1, 1)), [1, 3, 2]);
+    assert_eq!(host.call(Call::LenSurject(key(2, 1))), (0, vec![3]));
+    assert_eq!(host.call(new_run(20, 200)), (0, vec![4, 1]));
+    assert_eq!(host.call(new_run(30, 300)), (5, vec![]));
+    assert_eq!(host.call(Call::Union(key(4, 1), key(1, 1))), (0, vec![200, 1, 1, 1]));
+    assert_eq!(host.ring(key(1, 1)), [1, 4, 3, 2]);
+    assert_eq!(host.call(Call::Union(key(4, 1), key(4, 1))), (4, vec![]));
+    assert_eq!(host.call(Call::Union(key(5, 1), key(1, 1))), (3, vec![]));
+    assert_eq!(host.call(Call::RemoveElement(key(4, 1))), (0, vec![20, 0, 0, 0]));
+    assert_eq!(host.head[8], 2);
+    assert_eq!(host.call(new_run(21, 210)), (0, vec![4, 2]));
+    assert_eq!(host.elems[3 * FRAME + 2], 2);
+    assert_eq!(host.call(Call::RemoveElement(key(4, 2))), (0, vec![21, 1, 210, 0]));
+    assert_eq!(host.head[8], 3);
+    let mut records = [0; 18];
+    assert_eq!(host.lent(Call::Drain(key(3, 1)), &mut records), (0, vec![3]));
+    assert_eq!(records, [3, 1, 12, 0, 0, 0, 2, 1, 11, 0, 0, 0, 1, 1, 10, 1, 100, 0]);
+    assert_eq!(host.head[8], 6);
+    let mut scratch = [9; 21];
+    assert_eq!(host.lent(Call::CompressCanonical { reset: 0 }, &mut scratch), (0, vec![0]));
+    assert_eq!(scratch[..20], [0; 20]);
+    assert_eq!(scratch[20], 9);
+    assert_eq!(host.head, [4, 0, 0, 0, 3, 0, 0, 0, 7]);
+    assert!(host.elems.iter().chain(&host.shared).all(|&n| n == 0));
+}
+
+#[test]
+fn p11_and_p12() {
+    let mut host = Host::fresh(4, 3);
+    assert_eq!(host.call(new_run(10, 100)), (0, vec![1, 1]));
+    assert_eq!(host.call(new_run(20, 200)), (0, vec![2, 1]));
+    assert_eq!(host.call(Call::RemoveElement(key(1, 1))), (0, vec![10, 1, 100, 0]));
+    assert_eq!(host.call(Call::Insert(key(2, 1), 21)), (0, vec![1, 2]));
+    assert_eq!(host.lent(Call::CompressCanonical { reset: 0 }, &mut [0; 20]), (0, vec![0]));
+    assert_eq!(host.elems[..10], [3, 21, 1, 2, 2, 3, 20, 1, 1, 1]);
+    assert_eq!(host.shared, [2, 200, 0, 0, 0, 0, 0, 0, 0]);
+    assert_eq!(host.head, [4, 2, 0, 2, 3, 1, 0, 1, 3]);
+
+    let mut host = Host::fresh(4, 3);
+    host.head[8] = 4_294_967_295;
+    assert_eq!(host.call(new_run(10, 100)), (0, vec![1, 4_294_967_295]));
+    assert_eq!(host.call(Call::RemoveElement(key(1, 4_294_967_295))), (0, vec![10, 1, 100, 1]));
+    assert_eq!(host.head[8], 1);
+}
+
+/// Two rings of two, each with one frame of class 1 and one of class 2.
+#[test]
+fn mixed_rings_are_unsound() {
+    let mut host = Host {
+        head: [4, 4, 0, 4, 3, 2, 0, 2, 1],
+        elems: vec![1, 0, 1, 2, 2, 1, 0, 2, 1, 1, 1, 0, 1, 4, 4, 1, 0, 2, 3, 3],
+        shared: vec![2, 0, 0, 2, 0, 0, 0, 0, 0],
+    };
+    assert_eq!(host.call(Call::Check), (2, vec![]));
+    host.elems[FRAME + 2] = 1;
+    host.elems[2 * FRAME + 2] = 2;
+    assert_eq!(host.call(Call::Check), (0, vec![]));
+}
+
+/// The linear check and the sentences by sets agree: grown states, with one to three numbers changed.
+#[test]
+fn the_check_is_the_sentences() {
+    let mut seed = 88_172_645_463_325_252u64;
+    let mut next = move |below: u64| {
+        seed ^= seed << 13;
+        seed ^= seed >> 7;
+        seed ^= seed << 17;
+        seed % below
+    };
+    let mut verdicts = [0u32; 2];
+    for _ in 0..20_000 {
+        let mut host = Host::fresh(1 + next(5), 1 + next(4));
+        for _ in 0..next(12) {
+            let (j, k) = (key(1 + next(5), 1 + next(3)), key(1 + next(5), 1 + next(3)));
+            let call = match next(4) {
+                0 => new_run(next(3), next(3)),
+                1 => Call::Insert(k, next(3)),
+                2 => Call::Union(j, k),
+                _ => Call::RemoveElement(k),
+            };
+            host.call(call);
+        }
+        for _ in 0..next(4) {
+            let value = next(7);
+            match next(3) {
+                0 => host.head[[1, 2, 3, 5, 6, 7, 8][next(7) as usize]] = value,
+                1 => *pick(&mut host.elems, next(1 << 32)) = value,
+                _ => *pick(&mut host.shared, next(1 << 32)) = value,
+            }
+        }
+        let head = model::Head::of(&host.head);
+        let verdict = sets::sound(&head, &host.elems, &host.shared);
+        assert_eq!(check::sound(&head, &host.elems, &host.shared), verdict, "{:?} {:?} {:?}", host.head, host.elems, host.shared);
+        verdicts[verdict as usize] += 1;
+    }
+    assert!(verdicts[0] > 2_000 && verdicts[1] > 2_000, "{verdicts:?}");
+}
+
+fn pick(table: &mut [u64], n: u64) -> &mut u64 {
+    let at = n as usize % table.len();
+    &mut table[at]
+}

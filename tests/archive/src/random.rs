@@ -1,0 +1,203 @@
+//! A seeded run of calls: on grown states, on states with some numbers changed, and on random numbers for tables, head and
+//! keys. Every call is compared with the model in every number.
+
+use crate::{Host, key};
+use model::door::{Call, KINDS};
+use model::{FRAME, HEADER, Key, PLACE, RECORD};
+use std::collections::BTreeMap;
+use std::fmt;
+
+/// Numbers that look random: xorshift, by Marsaglia.
+pub struct Random(u64);
+
+impl Random {
+    pub fn new(seed: u64) -> Random {
+        Random(seed.wrapping_mul(0x9E37_79B9_7F4A_7C15) | 1)
+    }
+
+    pub fn number(&mut self) -> u64 {
+        self.0 ^= self.0 << 13;
+        self.0 ^= self.0 >> 7;
+        self.0 ^= self.0 << 17;
+        self.0.wrapping_mul(0x2545_F491_4F6C_DD1D)
+    }
+
+    pub fn below(&mut self, n: u64) -> u64 {
+        (self.number() >> 32) % n
+    }
+
+    pub fn one_in(&mut self, n: u64) -> bool {
+        self.below(n) == 0
+    }
+
+    pub fn of<T: Copy>(&mut self, choice: &[T]) -> T {
+        choice[self.below(choice.len() as u64) as usize]
+    }
+
+    /// Small, or near an edge, or anything.
+    fn odd(&mut self, small: u64) -> u64 {
+        match self.below(8) {
+            0 => self.number(),
+            1 => self.of(&[65_535, 65_536, 65_537, 4_294_967_294, 4_294_967_295, 4_294_967_296, u64::MAX, 1 << 63]),
+            _ => self.below(small),
+        }
+    }
+}
+
+/// Calls by entry: accepted, and by refusal.
+#[derive(Default)]
+pub struct Tally(pub BTreeMap<&'static str, [u64; 8]>);
+
+impl fmt::Display for Tally {
+    fn fmt(&self, f: &mut fmt::Formatter<'_>) -> fmt::Result {
+        write!(f, "{:<19}{:>9}", "entry", "accepted")?;
+        (1..8).try_for_each(|n| write!(f, "{:>7} {n}", "ref."))?;
+        for (name, counts) in &self.0 {
+            write!(f, "\n{name:<19}")?;
+            counts.iter().try_for_each(|n| write!(f, "{n:>9}"))?;
+        }
+        Ok(())
+    }
+}
+
+/// Makes the calls, and panics at the first difference.
+pub fn compare(calls: u64, seed: u64) -> Tally {
+    let mut r = Random::new(seed);
+    let mut tally = Tally::default();
+    let mut grown = Host::fresh(4, 3);
+    for _ in 0..calls {
+        let way = r.below(8);
+        let mut host = match way {
+            0 => noise(&mut r),
+            1 | 2 => damaged(&grown, &mut r),
+            _ => std::mem::replace(&mut grown, Host::fresh(1, 1)),
+        };
+        let call = any_call(&host, &mut r);
+        let lent = any_buffer(&host, &call, &mut r);
+        let said = host.call(call, &lent);
+        tally.0.entry(call.name().0).or_default()[said.number as usize] += 1;
+        // a changed state that is sound all the same is grown from there
+        if way > 2 || way > 0 && said.number == 0 {
+            grown = host;
+        }
+        if r.one_in(80) {
+            grown = begun(&mut r);
+        }
+    }
+    tally
+}
+
+/// A new state, sometimes shortly before the generation's last number.
+fn begun(r: &mut Random) -> Host {
+    let most = r.of(&[1, 4, 6, 8, 12, 16, 16, 80]);
+    let mut host = Host::fresh(1 + r.below(most), 1 + r.below(most));
+    if r.one_in(4) {
+        host.head[8] = 4_294_967_295 - r.below(6);
+    }
+    host
+}
+
+/// One to three numbers changed, or a table one number short or long, or a capacity that does not fit it.
+fn damaged(grown: &Host, r: &mut Random) -> Host {
+    let mut host = grown.clone();
+    let small = host.head[0] + 3;
+    if r.one_in(6) {
+        match r.below(6) {
+            0 => drop(host.elems.pop()),
+            1 => drop(host.shared.pop()),
+            2 => host.elems.push(0),
+            3 => host.shared.push(0),
+            4 => host.head[0] = r.odd(small),
+            _ => host.head[4] = r.odd(small),
+        }
+        return host;
+    }
+    for _ in 0..=r.below(3) {
+        let value = r.odd(small);
+        match r.below(4) {
+            0 => host.head[r.of(&[1, 2, 3, 5, 6, 7, 8])] = value,
+            1 => host.head[r.of(&[1, 5])] = value % small,
+            2 => *pick(&mut host.elems, r) = value,
+            _ => *pick(&mut host.shared, r) = value,
+        }
+    }
+    host
+}
+
+fn pick<'a>(table: &'a mut [u64], r: &mut Random) -> &'a mut u64 {
+    let at = r.below(table.len() as u64) as usize;
+    &mut table[at]
+}
+
+/// Random numbers throughout, of fitting shape half the time.
+fn noise(r: &mut Random) -> Host {
+    let (elems, shared) = (r.below(6), r.below(5));
+    let small = elems + 2;
+    let mut host = Host { head: [0; 9], elems: vec![], shared: vec![] };
+    for number in &mut host.head {
+        *number = r.odd(small);
+    }
+    if r.one_in(2) {
+        (host.head[0], host.head[4]) = (elems, shared);
+    }
+    host.elems = (0..elems as usize * FRAME).map(|_| r.odd(small)).collect();
+    host.shared = (0..shared as usize * HEADER).map(|_| r.odd(small)).collect();
+    host
+}
+
+fn any_key(keys: &[Key], r: &mut Random) -> Key {
+    if keys.is_empty() || r.one_in(8) {
+        return match r.below(3) {
+            0 => key(r.odd(6), r.odd(4)),
+            1 => key(r.below(6), 0),
+            _ => key(keys.first().map_or(1, |k| k.slot), r.odd(4)),
+        };
+    }
+    r.of(keys)
+}
+
+fn any_call(host: &Host, r: &mut Random) -> Call {
+    let keys = host.keys();
+    let (j, k) = (any_key(&keys, r), any_key(&keys, r));
+    let (a, b, elems, shared) = (r.odd(50), r.odd(50), r.below(7), r.below(7));
+    // what fills the tables comes more often than what empties them
+    match r.below(KINDS as u64 + 14) {
+        0 => Call::Fresh { elems: r.of(&[host.head[0], elems]), shared: r.of(&[host.head[4], shared]) },
+        1 => Call::Check,
+        2 => Call::LenSurject(k),
+        3 => Call::InSameSurject(j, k),
+        4 => Call::Get(k),
+        5 => Call::GetShared(k),
+        6 => Call::Set(k, a),
+        7 => Call::SetShared(k, a),
+        8 | 9 => Call::ExchangeShared4([j, k, any_key(&keys, r), any_key(&keys, r)], [a, b, r.odd(9), r.odd(9)]),
+        10 | 11 => Call::Union(j, k),
+        12 => Call::RemoveElement(k),
+        13 => Call::RemoveShared(k),
+        14 => Call::List(k),
+        15 => Call::Drain(k),
+        16 if r.one_in(3) => Call::DrainAll,
+        17 if r.one_in(3) => Call::Clear,
+        18 => Call::CompressCanonical { reset: r.of(&[0, 0, 1, a]) },
+        n if n < 27 => Call::InsertNew { payload: a, value: b },
+        _ => Call::Insert(k, a),
+    }
+}
+
+/// A buffer about as long as needed, with numbers in it.
+fn any_buffer(host: &Host, call: &Call, r: &mut Random) -> Vec<u64> {
+    let frames = host.keys().len();
+    let most = match call {
+        Call::List(_) => frames * PLACE,
+        Call::Drain(_) | Call::DrainAll => frames * RECORD,
+        Call::CompressCanonical { .. } => host.elems.len(),
+        _ => 0,
+    };
+    let length = match r.below(6) {
+        0 => r.below(most as u64 + 1) as usize,
+        1 => most.saturating_sub(1),
+        2 => most + r.below(4) as usize,
+        _ => most,
+    };
+    (0..length).map(|_| r.odd(100)).collect()
+}

@@ -1,0 +1,188 @@
+//! Each entry through an accepted and a refused call, with the numbers that document 01 gives.
+
+use archive::{Host, UNTOUCHED, key};
+use model::door::Call;
+
+/// Makes the call (which compares every number with the model's), and answers result and `out`.
+fn said(host: &mut Host, call: Call) -> (u64, Vec<u64>) {
+    let said = host.call(call, &[]);
+    let count = if said.number == 0 { call.name().1 } else { 0 };
+    assert!(said.out[count..].iter().all(|&n| n == UNTOUCHED), "{call:?} writes past its out");
+    (said.number, said.out[..count].to_vec())
+}
+
+fn new_run(payload: u64, value: u64) -> Call {
+    Call::InsertNew { payload, value }
+}
+
+/// P1 and P2: ring 1, 3, 2 under 100, and 4 under 200.
+fn two_runs() -> Host {
+    let mut host = Host::fresh(4, 3);
+    assert_eq!(said(&mut host, new_run(10, 100)), (0, vec![1, 1]));
+    assert_eq!(said(&mut host, Call::Insert(key(1, 1), 11)), (0, vec![2, 1]));
+    assert_eq!(said(&mut host, Call::Insert(key(1, 1), 12)), (0, vec![3, 1]));
+    assert_eq!(said(&mut host, new_run(20, 200)), (0, vec![4, 1]));
+    host
+}
+
+#[test]
+fn fresh() {
+    let mut host = Host { head: [99; 9], elems: vec![98; 20], shared: vec![97; 9] };
+    assert_eq!(said(&mut host, Call::Fresh { elems: 4, shared: 4 }), (1, vec![]));
+    assert_eq!(host.head, [99; 9]);
+    assert_eq!(said(&mut host, Call::Fresh { elems: 4, shared: 3 }), (0, vec![]));
+    assert_eq!(host, Host::fresh(4, 3));
+}
+
+#[test]
+fn check() {
+    let mut host = two_runs();
+    assert_eq!(said(&mut host, Call::Check), (0, vec![]));
+    host.head[3] += 1;
+    assert_eq!(said(&mut host, Call::Check), (2, vec![]));
+}
+
+#[test]
+fn reads() {
+    let mut host = two_runs();
+    let (live, dead) = (key(3, 1), key(3, 2));
+    assert_eq!(said(&mut host, Call::LenSurject(live)), (0, vec![3]));
+    assert_eq!(said(&mut host, Call::LenSurject(dead)), (3, vec![]));
+    assert_eq!(said(&mut host, Call::InSameSurject(live, key(1, 1))), (0, vec![1]));
+    assert_eq!(said(&mut host, Call::InSameSurject(live, key(4, 1))), (0, vec![0]));
+    assert_eq!(said(&mut host, Call::InSameSurject(live, dead)), (3, vec![]));
+    assert_eq!(said(&mut host, Call::Get(live)), (0, vec![12]));
+    assert_eq!(said(&mut host, Call::Get(dead)), (3, vec![]));
+    assert_eq!(said(&mut host, Call::GetShared(live)), (0, vec![100]));
+    assert_eq!(said(&mut host, Call::GetShared(dead)), (3, vec![]));
+}
+
+#[test]
+fn sets() {
+    let mut host = two_runs();
+    let (live, dead) = (key(3, 1), key(0, 1));
+    assert_eq!(said(&mut host, Call::Set(live, 13)), (0, vec![12]));
+    assert_eq!(said(&mut host, Call::Set(dead, 14)), (3, vec![]));
+    assert_eq!(said(&mut host, Call::Get(live)), (0, vec![13]));
+    assert_eq!(said(&mut host, Call::SetShared(live, 101)), (0, vec![100]));
+    assert_eq!(said(&mut host, Call::SetShared(dead, 102)), (3, vec![]));
+    assert_eq!(said(&mut host, Call::GetShared(key(1, 1))), (0, vec![101]));
+}
+
+#[test]
+fn exchange_shared4() {
+    let mut host = Host::fresh(5, 4);
+    for n in 1..5 {
+        assert_eq!(said(&mut host, new_run(n, 100 * n)), (0, vec![n, 1]));
+    }
+    let keys = [key(3, 1), key(1, 1), key(4, 1), key(2, 1)];
+    assert_eq!(said(&mut host, Call::ExchangeShared4(keys, [1, 2, 3, 4])), (0, vec![300, 100, 400, 200]));
+    assert_eq!(said(&mut host, Call::GetShared(key(1, 1))), (0, vec![2]));
+    assert_eq!(said(&mut host, Call::Insert(key(1, 1), 9)), (0, vec![5, 1]));
+    let twice = [key(3, 1), key(1, 1), key(5, 1), key(2, 1)];
+    assert_eq!(said(&mut host, Call::ExchangeShared4(twice, [1, 2, 3, 4])), (4, vec![]));
+    let dead = [key(1, 1), key(1, 1), key(5, 1), key(6, 1)];
+    assert_eq!(said(&mut host, Call::ExchangeShared4(dead, [1, 2, 3, 4])), (3, vec![]));
+}
+
+#[test]
+fn insert_new_and_insert() {
+    let mut host = two_runs();
+    assert_eq!(said(&mut host, new_run(30, 300)), (5, vec![]));
+    assert_eq!(said(&mut host, Call::Insert(key(4, 1), 30)), (5, vec![]));
+    assert_eq!(said(&mut host, Call::Insert(key(4, 7), 30)), (3, vec![]));
+    let mut full = Host::fresh(1, 1);
+    assert_eq!(said(&mut full, new_run(1, 2)), (0, vec![1, 1]));
+    // both tables are full: the shared slot is tested first
+    assert_eq!(said(&mut full, new_run(3, 4)), (6, vec![]));
+}
+
+#[test]
+fn union() {
+    let mut host = two_runs();
+    assert_eq!(said(&mut host, Call::Union(key(4, 1), key(1, 1))), (0, vec![200, 1, 1, 1]));
+    assert_eq!(said(&mut host, Call::Union(key(4, 1), key(4, 1))), (4, vec![]));
+    assert_eq!(said(&mut host, Call::Union(key(5, 1), key(1, 1))), (3, vec![]));
+    let list = host.call(Call::List(key(1, 1)), &[0; 8]);
+    assert_eq!((list.out[0], list.lent), (4, vec![1, 1, 4, 1, 3, 1, 2, 1]));
+}
+
+#[test]
+fn remove_element() {
+    let mut host = two_runs();
+    assert_eq!(said(&mut host, Call::RemoveElement(key(1, 1))), (0, vec![10, 0, 0, 0]));
+    assert_eq!(said(&mut host, Call::RemoveElement(key(1, 1))), (3, vec![]));
+    host.head[8] = 4_294_967_295;
+    assert_eq!(said(&mut host, Call::RemoveElement(key(4, 1))), (0, vec![20, 1, 200, 1]));
+    assert_eq!(host.head[8], 1);
+}
+
+#[test]
+fn remove_shared() {
+    let mut host = two_runs();
+    assert_eq!(said(&mut host, Call::RemoveShared(key(2, 1))), (0, vec![100, 0]));
+    assert_eq!(said(&mut host, Call::RemoveShared(key(1, 1))), (3, vec![]));
+    assert_eq!((host.head[3], host.head[8]), (1, 2));
+}
+
+#[test]
+fn list() {
+    let mut host = two_runs();
+    let list = host.call(Call::List(key(3, 1)), &[77; 7]);
+    assert_eq!((list.number, list.out[0], list.lent), (0, 3, vec![3, 1, 2, 1, 1, 1, 77]));
+    assert_eq!(host.call(Call::List(key(3, 1)), &[77; 5]).number, 7);
+    assert_eq!(host.call(Call::List(key(3, 9)), &[77; 5]).number, 3);
+}
+
+#[test]
+fn drain() {
+    let mut host = two_runs();
+    assert_eq!(host.call(Call::Drain(key(3, 1)), &[77; 17]).number, 7);
+    let drain = host.call(Call::Drain(key(3, 1)), &[77; 19]);
+    assert_eq!((drain.number, drain.out[0]), (0, 3));
+    assert_eq!(drain.lent, [3, 1, 12, 0, 0, 0, 2, 1, 11, 0, 0, 0, 1, 1, 10, 1, 100, 0, 77]);
+    assert_eq!(host.head[8], 4);
+    assert_eq!(host.call(Call::Drain(key(3, 1)), &[77; 19]).number, 3);
+}
+
+#[test]
+fn drain_all() {
+    let mut host = two_runs();
+    assert_eq!(host.call(Call::DrainAll, &[77; 23]).number, 7);
+    let drain = host.call(Call::DrainAll, &[77; 24]);
+    assert_eq!((drain.number, drain.out[0]), (0, 4));
+    assert_eq!(drain.lent, [1, 1, 10, 0, 0, 0, 3, 1, 12, 0, 0, 0, 2, 1, 11, 1, 100, 0, 4, 1, 20, 1, 200, 0]);
+    assert_eq!(host.head, [4, 0, 0, 0, 3, 0, 0, 0, 6]);
+}
+
+#[test]
+fn clear() {
+    let mut host = two_runs();
+    assert_eq!(said(&mut host, Call::Clear), (0, vec![0]));
+    host.head[8] = 4_294_967_295;
+    assert_eq!(said(&mut host, Call::Clear), (0, vec![1]));
+    assert_eq!(host, Host::fresh(4, 3));
+    host.head[5] = 4;
+    assert_eq!(said(&mut host, Call::Clear), (2, vec![]));
+}
+
+/// P11, and with reset.
+#[test]
+fn compress_canonical() {
+    let mut host = Host::fresh(4, 3);
+    said(&mut host, new_run(10, 100));
+    said(&mut host, new_run(20, 200));
+    said(&mut host, Call::RemoveElement(key(1, 1)));
+    assert_eq!(said(&mut host, Call::Insert(key(2, 1), 21)), (0, vec![1, 2]));
+    assert_eq!(host.call(Call::CompressCanonical { reset: 0 }, &[8; 19]).number, 7);
+    let compress = host.call(Call::CompressCanonical { reset: 0 }, &[8; 21]);
+    assert_eq!((compress.number, compress.out[0]), (0, 0));
+    assert_eq!(compress.lent, [vec![0; 20], vec![8]].concat());
+    assert_eq!(host.elems[..10], [3, 21, 1, 2, 2, 3, 20, 1, 1, 1]);
+    assert_eq!(host.shared, [2, 200, 0, 0, 0, 0, 0, 0, 0]);
+    assert_eq!(host.head, [4, 2, 0, 2, 3, 1, 0, 1, 3]);
+    host.head[8] = 4_294_967_295;
+    // any number but 0 asks for a reset
+    assert_eq!(host.call(Call::CompressCanonical { reset: 1 << 40 }, &[8; 20]).out[0], 0);
+    assert_eq!((host.head[8], host.elems[0]), (1, 1));
+}

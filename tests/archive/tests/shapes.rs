@@ -1,0 +1,195 @@
+//! Refusals 1 and 2 at every entry: capacities at their limits, tables one number short and long, damaged states. And the
+//! seeded run.
+
+use archive::random::compare;
+use archive::{Host, every_call, key};
+use model::door::Call;
+use model::{FRAME, HEADER, check};
+
+fn numbers(host: &Host) -> Vec<u64> {
+    every_call(key(1, 1), key(2, 1)).into_iter().map(|call| host.clone().call(call, &[0; 40]).number).collect()
+}
+
+/// Two runs, of slots 1 and 3 and of slot 2.
+fn two_runs() -> Host {
+    let mut host = Host::fresh(4, 3);
+    for call in [
+        Call::InsertNew { payload: 1, value: 2 },
+        Call::InsertNew { payload: 3, value: 4 },
+        Call::Insert(key(1, 1), 5),
+    ] {
+        assert_eq!(host.call(call, &[]).number, 0);
+    }
+    host
+}
+
+#[test]
+fn tables_one_number_short_or_long() {
+    let host = two_runs();
+    // of the calls, only the four-key one with keys twice is not accepted
+    assert_eq!(numbers(&host).iter().filter(|&&n| n != 0).collect::<Vec<_>>(), [&4]);
+    let mut damaged = vec![host.clone(), host.clone(), host.clone(), host.clone(), host.clone(), host.clone()];
+    damaged[0].elems.pop();
+    damaged[1].elems.push(0);
+    damaged[2].shared.pop();
+    damaged[3].shared.push(0);
+    damaged[4].elems.clear();
+    damaged[5].shared.clear();
+    for host in &damaged {
+        assert!(numbers(host).iter().all(|&n| n == 1), "{host:?}");
+        assert_eq!(host.clone().call(Call::Fresh { elems: 4, shared: 3 }, &[]).number, 1);
+    }
+}
+
+#[test]
+fn capacities_at_their_limits() {
+    for (elems, shared, number) in [
+        (0, 1, 1),
+        (1, 0, 1),
+        (1, 1, 0),
+        (1, 65_536, 0),
+        (65_536, 1, 0),
+        (65_536, 65_536, 0),
+        (65_537, 1, 1),
+        (1, 65_537, 1),
+        (1 << 63, 1, 1),
+        (u64::MAX, u64::MAX, 1),
+    ] {
+        // tables as long as the capacity asks, where that can be had
+        let (e, s) = (elems.min(65_537), shared.min(65_537));
+        let mut host = Host::fresh(e, s);
+        (host.head[0], host.head[4]) = (elems, shared);
+        assert_eq!(host.call_with(check::sound, Call::Check, &[]).number, number, "{elems} {shared}");
+        assert_eq!(host.call_with(check::sound, Call::Fresh { elems, shared }, &[]).number, number);
+        let new = host.call_with(check::sound, Call::InsertNew { payload: 1, value: 2 }, &[]).number;
+        assert_eq!(new, number);
+    }
+}
+
+/// A capacity that times its width gives the table's length only modulo 2 to the 64th is refused.
+#[test]
+fn lengths_do_not_wrap() {
+    // a third modulo 2 to the 64th: a table of 10 numbers would fit 10 times it
+    let third = 0xAAAA_AAAA_AAAA_AAAB_u64;
+    assert_eq!(third.wrapping_mul(3), 1);
+    let mut host = two_runs();
+    host.shared.push(0);
+    host.head[4] = third.wrapping_mul(10);
+    assert!(numbers(&host).iter().all(|&n| n == 1));
+    assert_eq!(host.clone().call(Call::Fresh { elems: 4, shared: host.head[4] }, &[]).number, 1);
+    for capacity in [(1 << 32) + 4, (1 << 61) + 4, 65_540] {
+        let mut host = two_runs();
+        host.head[0] = capacity;
+        assert!(numbers(&host).iter().all(|&n| n == 1));
+        assert_eq!(host.call(Call::Fresh { elems: capacity, shared: 3 }, &[]).number, 1);
+    }
+}
+
+/// 65,536 frames in one ring, or in as many runs, or in rings of four: every call, every slot compared.
+#[test]
+fn full_tables() {
+    let most = 65_536u64;
+    for size in [1, 4, most] {
+        let host = full(most, size);
+        let (j, k) = (key(5, 1), key(most, 1));
+        for call in every_call(j, k) {
+            let needed = match call {
+                Call::DrainAll | Call::Drain(_) => 6 * most as usize,
+                Call::List(_) => 2 * most as usize,
+                Call::CompressCanonical { .. } => FRAME * most as usize,
+                _ => 0,
+            };
+            let number = host.clone().call_with(check::sound, call, &vec![3; needed]).number;
+            match call {
+                Call::ExchangeShared4(..) => assert_eq!(number, 4),
+                Call::InsertNew { .. } => assert_eq!(number, if size == 1 { 6 } else { 5 }),
+                Call::Insert(..) => assert_eq!(number, 5),
+                Call::Union(..) => assert_eq!(number, if size == most { 4 } else { 0 }),
+                _ => assert_eq!(number, 0, "{call:?}"),
+            }
+        }
+    }
+}
+
+/// Rings of `size` frames, the frames of a ring far apart.
+fn full(most: u64, size: u64) -> Host {
+    let runs = most / size;
+    let mut host = Host::fresh(most, most);
+    host.head = [most, most, 0, most, most, runs, 0, runs, 1];
+    for run in 0..runs {
+        let slot = |i: u64| (i % size) * runs + run + 1;
+        for i in 0..size {
+            let row = [1, slot(i) * 3, run + 1, slot(i + size - 1), slot(i + 1)];
+            host.elems[(slot(i) as usize - 1) * FRAME..][..FRAME].copy_from_slice(&row);
+        }
+        host.shared[run as usize * HEADER..][..HEADER].copy_from_slice(&[size, run, 0]);
+    }
+    host
+}
+
+/// Document 01's trap: two rings of two, each with one frame of class 1 and one of class 2.
+#[test]
+fn mixed_rings_are_refused_2() {
+    let host = Host {
+        head: [4, 4, 0, 4, 3, 2, 0, 2, 1],
+        elems: vec![1, 0, 1, 2, 2, 1, 0, 2, 1, 1, 1, 0, 1, 4, 4, 1, 0, 2, 3, 3],
+        shared: vec![2, 0, 0, 2, 0, 0, 0, 0, 0],
+    };
+    assert!(numbers(&host).iter().all(|&n| n == 2));
+    // with the classes sorted out it is sound
+    let mut sorted = host.clone();
+    (sorted.elems[7], sorted.elems[12]) = (1, 2);
+    assert_eq!(sorted.call(Call::Check, &[]).number, 0);
+    // and fresh takes any tables that fit
+    assert_eq!(host.clone().call(Call::Fresh { elems: 4, shared: 3 }, &[]).number, 0);
+}
+
+/// Each sentence of soundness broken alone.
+#[test]
+fn each_sentence_of_soundness() {
+    let mut start = two_runs();
+    // a free slot and a free header, so that chains are there too
+    for call in [Call::InsertNew { payload: 6, value: 7 }, Call::RemoveElement(key(4, 1))] {
+        assert_eq!(start.call(call, &[]).number, 0);
+    }
+    let breaks: [(&str, fn(&mut Host)); 22] = [
+        ("generation 0", |h| h.head[8] = 0),
+        ("generation past the last", |h| h.head[8] = 4_294_967_296),
+        ("element extent past its capacity", |h| h.head[1] = 5),
+        ("shared extent past its capacity", |h| h.head[5] = 4),
+        ("element live number", |h| h.head[3] = 2),
+        ("shared live number", |h| h.head[7] = 3),
+        ("a frame's generation past the last", |h| h.elems[0] = 4_294_967_296),
+        ("element chain past the extent", |h| h.head[2] = 5),
+        ("element chain at a live slot", |h| h.head[2] = 1),
+        ("element chain without end", |h| h.elems[19] = 4),
+        ("shared chain past the extent", |h| h.head[6] = 4),
+        ("shared chain at a live slot", |h| h.head[6] = 1),
+        ("shared chain without end", |h| h.shared[8] = 3),
+        ("payload in a free slot", |h| h.elems[16] = 1),
+        ("class in a free slot", |h| h.elems[17] = 1),
+        ("previous in a free slot", |h| h.elems[18] = 1),
+        ("value in a free header", |h| h.shared[7] = 1),
+        ("next free in a live header", |h| h.shared[2] = 3),
+        ("next to a free slot", |h| h.elems[4] = 4),
+        ("previous that does not undo next", |h| h.elems[3] = 1),
+        ("a class that is free", |h| h.elems[7] = 3),
+        ("a count that is not the ring's", |h| h.shared[0] = 3),
+    ];
+    assert_eq!(start.call(Call::Check, &[]).number, 0);
+    for (what, damage) in breaks {
+        let mut host = start.clone();
+        damage(&mut host);
+        assert_ne!(host, start, "{what}");
+        assert!(numbers(&host).iter().all(|&n| n == 2), "{what}: {:?}", numbers(&host));
+    }
+}
+
+/// A million random calls. `cargo run --release -p archive [CALLS] [SEED]` makes more.
+#[test]
+fn random_numbers() {
+    let tally = compare(1_000_000, 20_261);
+    for (name, counts) in tally.0 {
+        assert!(counts[0] > 0 && counts[1..].iter().any(|&n| n > 0), "{name}: {counts:?}");
+    }
+}
