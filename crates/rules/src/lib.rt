@@ -11,6 +11,24 @@ pub const FRAME: u64 = 5;
 
 pub const HEADER: u64 = 3;
 
+// Tables 1: the fields of an element slot; in the rules, frameAt.
+pub const GENERATION: u64 = 0;
+
+pub const PAYLOAD: u64 = 1;
+
+pub const CLASS: u64 = 2;
+
+pub const PREVIOUS: u64 = 3;
+
+pub const NEXT: u64 = 4;
+
+// Tables 2: the fields of a shared slot; in the rules, headerAt.
+pub const COUNT: u64 = 0;
+
+pub const VALUE: u64 = 1;
+
+pub const NEXT_FREE: u64 = 2;
+
 // Tables 3: in the rules, lastGeneration.
 pub const LAST_GENERATION: u64 = 4294967295;
 

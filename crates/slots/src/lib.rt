@@ -1,9 +1,27 @@
-// The slots of the lent tables: leaves, rows, pools, lookup and ring links (Modules 1 to 3).
+// The slots of the lent tables: leaves, rows, taking and freeing, lookup and ring links (Modules 1 to 3).
+use rules::CLASS;
+use rules::COUNT;
+use rules::FRAME;
+use rules::Found;
+use rules::GENERATION;
+use rules::HEADER;
+use rules::Head;
+use rules::Key;
+use rules::NEXT;
+use rules::NEXT_FREE;
+use rules::PAYLOAD;
+use rules::PREVIOUS;
+use rules::Pool;
+use rules::VALUE;
 ghost use mathlib.Core.Path.{_≡_};
+ghost use mathlib.Core.List.{List, [], _∷_};
 ghost use Prim.Native.Nat.{ℕ, _+_, _*_, _≤_, _<_};
 ghost use lib.ListN.{length};
-ghost use Rattle.rules.specs.Tables.{cell, put};
-ghost use Rattle.slots.specs.Asked.{Cell};
+ghost use Rattle.rules.specs.Tables.{frameWidth, headerWidth, cell, put, row, stateOf, previousOf, nextOf, classOf};
+ghost use Rattle.rules.specs.Slots.{taken, freeElement, freeShared};
+ghost use Rattle.rules.specs.Runs.{frame, linked, exchanged, rewritten};
+ghost use Rattle.slots.specs.Asked.{Within, Cell, Takes, Next, Between, Along};
+ghost use Rattle.slots.specs.Answered.{Looks, spliced};
 
 // A field of a slot.
 pub fn get(t: &[u64], width: u64, field: u64, slot: u64) -> u64
@@ -18,4 +36,157 @@ pub fn put(t: &mut [u64], width: u64, slot: u64, field: u64, value: u64)
     ensures { λ r. ⌜ now (t .exit) ≡ put width (now (t .entry)) slot field value ⌝ }
 {
     t[((slot - 1) * width + field) as usize] = value;
+}
+
+// All fields of an element slot.
+pub fn write_frame(
+    e: &mut [u64],
+    slot: u64,
+    generation: u64,
+    payload: u64,
+    class: u64,
+    previous: u64,
+    next: u64,
+)
+    requires { ⌜ Within frameWidth (now e) slot ⌝ }
+    ensures { λ r. ⌜ now (e .exit) ≡ row frameWidth (now (e .entry)) slot (frame generation payload class previous next) ⌝ }
+{
+    put(e, FRAME, slot, GENERATION, generation);
+    put(e, FRAME, slot, PAYLOAD, payload);
+    put(e, FRAME, slot, CLASS, class);
+    put(e, FRAME, slot, PREVIOUS, previous);
+    put(e, FRAME, slot, NEXT, next);
+}
+
+// All fields of a shared slot.
+pub fn write_header(s: &mut [u64], slot: u64, count: u64, value: u64, next: u64)
+    requires { ⌜ Within headerWidth (now s) slot ⌝ }
+    ensures { λ r. ⌜ now (s .exit) ≡ row headerWidth (now (s .entry)) slot (count ∷ value ∷ next ∷ []) ⌝ }
+{
+    put(s, HEADER, slot, COUNT, count);
+    put(s, HEADER, slot, VALUE, value);
+    put(s, HEADER, slot, NEXT_FREE, next);
+}
+
+// Rules 3, taking a slot: in a free slot the field `link` names the next free one.
+pub fn take(pool: Pool, t: &[u64], width: u64, link: u64) -> Pool
+    requires { ⌜ Takes pool width (now t) link ⌝ }
+    ensures { λ r. ⌜ ((used : ℕ) → r ≡ taken (record { pool = pool; table = now (t .entry); width = width; used = used; link = link })) ⌝ }
+{
+    let root = pool.root;
+    if root == 0 {
+        return pool.grow();
+    }
+    let next = get(t, width, link, root);
+    pool.pop(next)
+}
+
+// Rules 3, freeing an element slot.
+pub fn free_frame(head: Head, elems: &mut [u64], slot: u64) -> Head
+    requires { ⌜ Within frameWidth (now elems) slot × (1 ≤ head .elems .live) ⌝ }
+    ensures { λ r. ⌜ ((s : List ℕ) → stateOf r (now (elems .exit)) s ≡ freeElement (stateOf head (now (elems .entry)) s) slot) ⌝ }
+{
+    write_frame(elems, slot, 0, 0, 0, 0, head.elems.root);
+    let pool = head.elems.push(slot);
+    let shared = head.shared;
+    Head {
+        elems: pool,
+        shared,
+        generation: head.generation,
+    }
+}
+
+// Rules 3, freeing a shared slot.
+pub fn free_header(head: Head, shared: &mut [u64], slot: u64) -> Head
+    requires { ⌜ Within headerWidth (now shared) slot × (1 ≤ head .shared .live) ⌝ }
+    ensures { λ r. ⌜ ((e : List ℕ) → stateOf r e (now (shared .exit)) ≡ freeShared (stateOf head e (now (shared .entry))) slot) ⌝ }
+{
+    write_header(shared, slot, 0, 0, head.shared.root);
+    let elems = head.elems;
+    let pool = head.shared.push(slot);
+    Head {
+        elems,
+        shared: pool,
+        generation: head.generation,
+    }
+}
+
+// Tables 4: a key is looked up.
+pub fn find(head: Head, elems: &[u64], key: Key) -> Found
+    requires { ⌜ head .elems .extent * frameWidth ≤ length (now elems) ⌝ }
+    ensures { λ r. ⌜ ((s : List ℕ) → Looks (stateOf head (now (elems .entry)) s) key r) ⌝ }
+{
+    let slot = key.slot;
+    if slot == 0 {
+        return Found::Dead;
+    }
+    if head.elems.extent < slot {
+        return Found::Dead;
+    }
+    let generation = get(elems, FRAME, GENERATION, slot);
+    if generation == 0 {
+        return Found::Dead;
+    }
+    if generation == key.generation {
+        return Found::Live(slot);
+    }
+    Found::Dead
+}
+
+// Rules 6 and 7: the slot `b` stands immediately after `a`.
+pub fn link(e: &mut [u64], a: u64, b: u64)
+    requires { ⌜ Within frameWidth (now e) a × Within frameWidth (now e) b ⌝ }
+    ensures { λ r. ⌜ now (e .exit) ≡ linked (now (e .entry)) a b ⌝ }
+{
+    put(e, FRAME, a, NEXT, b);
+    put(e, FRAME, b, PREVIOUS, a);
+}
+
+// Rules 5: the slot `y` is written as a frame immediately after `x`, in its class, which is the answer.
+pub fn splice(e: &mut [u64], x: u64, y: u64, generation: u64, payload: u64) -> u64
+    requires { ⌜ Next (now e) x × Within frameWidth (now e) y ⌝ }
+    ensures { λ r. ⌜ (r ≡ classOf (now (e .entry)) x) × (now (e .exit) ≡ spliced (now (e .entry)) x y generation payload) ⌝ }
+{
+    let class = get(e, FRAME, CLASS, x);
+    let next = get(e, FRAME, NEXT, x);
+    write_frame(e, y, generation, payload, class, x, next);
+    put(e, FRAME, x, NEXT, y);
+    put(e, FRAME, next, PREVIOUS, y);
+    class
+}
+
+// Rules 6: the next links of `x` and `y` are exchanged, previous links following.
+pub fn exchange(e: &mut [u64], x: u64, y: u64)
+    requires { ⌜ Next (now e) x × Next (now e) y ⌝ }
+    ensures { λ r. ⌜ now (e .exit) ≡ exchanged (now (e .entry)) x y ⌝ }
+{
+    let after_x = get(e, FRAME, NEXT, x);
+    let after_y = get(e, FRAME, NEXT, y);
+    link(e, x, after_y);
+    link(e, y, after_x);
+}
+
+// Rules 7: the frame leaves its ring.
+pub fn unlink(e: &mut [u64], x: u64)
+    requires { ⌜ Between (now e) x ⌝ }
+    ensures { λ r. ⌜ now (e .exit) ≡ linked (now (e .entry)) (previousOf (now (e .entry)) x) (nextOf (now (e .entry)) x) ⌝ }
+{
+    let previous = get(e, FRAME, PREVIOUS, x);
+    let next = get(e, FRAME, NEXT, x);
+    link(e, previous, next);
+}
+
+// Rules 6: the class entries of `n` frames along next from `x` become `class`.
+pub fn rewrite(e: &mut [u64], n: u64, x: u64, class: u64)
+    requires { ⌜ Along (now e) n x ⌝ }
+    ensures { λ r. ⌜ now (e .exit) ≡ rewritten n (now (e .entry)) x class ⌝ }
+{
+    let mut left = n;
+    let mut at = x;
+    while 0 < left {
+        let next = get(e, FRAME, NEXT, at);
+        put(e, FRAME, at, CLASS, class);
+        at = next;
+        left = left - 1;
+    }
 }
