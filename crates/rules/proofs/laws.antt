@@ -34,3 +34,4 @@ pub mod Rewritten
 pub mod Union
 pub mod Remove
 pub mod RemoveShared
+pub mod Ascending

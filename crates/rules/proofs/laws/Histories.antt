@@ -4,3 +4,6 @@ pub mod Insert
 pub mod Union
 pub mod Remove
 pub mod Gone
+pub mod Renumber
+pub mod Sorted
+pub mod Compress
