@@ -32,6 +32,8 @@ pub mod Insert
 pub mod NewRun
 pub mod Rewritten
 pub mod Union
+pub mod Freed
+pub mod Leaving
 pub mod Remove
 pub mod RemoveShared
 pub mod Ascending

@@ -1,18 +1,17 @@
 -- Insert: the columns after it, and that it keeps a sound state.
 use mathlib.Core.Path.{_≡_, refl, sym, ap, _∙_}
-use mathlib.Core.Logic.{_≢_, _⊎_, inl, inr}
-use Prim.Native.Nat.{ℕ, zero, suc, _+_, _≤_, _<_}
+use mathlib.Core.Logic.{_≢_}
+use Prim.Native.Nat.{ℕ, _+_, _≤_}
 use native.Mathlib.Omega.{arith}
 use native.Mathlib.Decide.{ℕ-discrete}
 use Rattle.rules.specs.declared.Pool.{Pool}
-use Rattle.rules.specs.declared.Head.{Head}
-use Rattle.rules.specs.Tables.{lastGeneration, frameWidth, headerWidth, State, elemSide}
+use Rattle.rules.specs.Tables.{lastGeneration, State, elemSide}
 use Rattle.rules.specs.Slots.{slotOf, taken}
 use Rattle.rules.specs.Runs.{inserted}
 use Rattle.rules.specs.Calls.{Ready}
-use Rattle.rules.proofs.laws.Columns.{upd, upd-same, upd-at, upd-other, cols, length-put, length-row}
-use Rattle.rules.proofs.laws.Pools.{Pooled, Room, Taken, take, keep}
-use Rattle.rules.proofs.laws.Working.{View, view, view-path, Links, Frame, Ring, Working, turn}
+use Rattle.rules.proofs.laws.Columns.{upd, upd-same, upd-other, cols, length-put, length-row}
+use Rattle.rules.proofs.laws.Pools.{Room, Taken, take, keep}
+use Rattle.rules.proofs.laws.Working.{View, view, view-path, Frame, Ring, Working, turn}
 use Rattle.rules.proofs.laws.Soundness.{shaped-of}
 use Rattle.rules.proofs.laws.Safe.{working}
 use Rattle.rules.proofs.laws.Stored.{Still, ready-still, taken-capacity, live-stored, taken-stored}

@@ -1,20 +1,19 @@
 -- New run: the columns after it, and that it keeps a sound state.
-use mathlib.Core.Path.{_≡_, refl, sym, ap, _∙_}
-use mathlib.Core.Logic.{_≢_, _⊎_, inl, inr}
-use mathlib.Core.List.{List, [], _∷_, _++_}
-use Prim.Native.Nat.{ℕ, zero, suc, _+_, _≤_, _<_}
+use mathlib.Core.Path.{_≡_, refl, sym, _∙_}
+use mathlib.Core.Logic.{_≢_, inl}
+use mathlib.Core.List.{[], _∷_}
+use Prim.Native.Nat.{ℕ, _≤_}
 use native.Mathlib.Omega.{arith}
 use native.Mathlib.Decide.{ℕ-discrete}
 use Rattle.rules.specs.declared.Pool.{Pool}
-use Rattle.rules.specs.declared.Head.{Head}
 use Rattle.rules.specs.Tables.{lastGeneration, State, elemSide, sharedSide}
 use Rattle.rules.specs.Slots.{slotOf, taken}
 use Rattle.rules.specs.Runs.{begun}
 use Rattle.rules.specs.Calls.{Ready}
 use Rattle.rules.proofs.laws.Lists.{In}
-use Rattle.rules.proofs.laws.Columns.{upd, upd-same, upd-at, upd-other, cols, length-row}
-use Rattle.rules.proofs.laws.Pools.{Pooled, Room, Taken, take}
-use Rattle.rules.proofs.laws.Working.{View, view, view-path, Links, Frame, Ring, Working}
+use Rattle.rules.proofs.laws.Columns.{upd, upd-same, upd-other, cols, length-row}
+use Rattle.rules.proofs.laws.Pools.{Room, Taken, take}
+use Rattle.rules.proofs.laws.Working.{View, view, view-path, Frame, Ring, Working}
 use Rattle.rules.proofs.laws.Soundness.{shaped-of}
 use Rattle.rules.proofs.laws.Safe.{working}
 use Rattle.rules.proofs.laws.Stored.{Still, ready-still, taken-capacity, taken-stored}

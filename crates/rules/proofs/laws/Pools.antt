@@ -1,8 +1,8 @@
 -- One table's slots: which are live, the free chain, the extent; taking and freeing a slot. For both tables alike:
 -- `g` is the column that is 0 where a slot is free, `n` the column that holds the next free slot.
 use mathlib.Core.Path.{_≡_, refl, sym, ap, _∙_}
-use mathlib.Core.Logic.{_≢_, _⊎_, inl, inr}
-use mathlib.Core.List.{List, [], _∷_, _++_}
+use mathlib.Core.Logic.{_≢_}
+use mathlib.Core.List.{List, [], _∷_}
 use mathlib.Core.Bool.{Bool, true, false}
 use Prim.Native.Nat.{ℕ, zero, suc, _+_, _-_, _≤_, _<_}
 use native.Mathlib.Omega.{arith}
@@ -12,9 +12,9 @@ use lib.Dec.{T, eqb, eqb→eq, eqb-refl}
 use Rattle.rules.specs.declared.Pool.{Pool}
 use Rattle.rules.specs.Notation.{if_then_else_, _==_}
 use Rattle.rules.specs.Tables.{Side, fieldOf}
-use Rattle.rules.specs.Slots.{slotOf, taken, isFull, freed}
-use Rattle.rules.proofs.laws.Columns.{upd, upd-same, upd-at, upd-other}
-use Rattle.rules.proofs.laws.Lists.{All, In, Out, NoDup, Walk, all-map, all-at, all-of, out-by, walk-frame}
+use Rattle.rules.specs.Slots.{slotOf, taken, freed}
+use Rattle.rules.proofs.laws.Columns.{upd, upd-same, upd-other}
+use Rattle.rules.proofs.laws.Lists.{All, Out, NoDup, Walk, all-map, all-at, all-of, out-by, walk-frame}
 
 -- 1 at a live slot, 0 at a free one
 abbrev pub sign : ℕ → ℕ

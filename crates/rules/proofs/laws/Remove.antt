@@ -1,19 +1,26 @@
--- Remove, on columns: sound before, sound after.
+-- Remove: the columns after it, and that it keeps a sound state.
 use mathlib.Core.Path.{_≡_, refl, sym, ap, _∙_}
-use mathlib.Core.Logic.{_≢_, _⊎_, inl, inr}
-use mathlib.Core.List.{List, [], _∷_, _++_}
-use Prim.Native.Nat.{ℕ, zero, suc, _+_, _-_, _≤_, _<_}
+use mathlib.Core.Logic.{_≢_, inl, inr}
+use mathlib.Core.List.{List, [], _∷_}
+use Prim.Native.Nat.{ℕ, suc, _-_, _≤_}
 use native.Mathlib.Omega.{arith}
 use native.Mathlib.Decide.{ℕ-discrete}
 use lib.ListN.{length}
 use Rattle.rules.specs.declared.Pool.{Pool}
-use Rattle.rules.specs.declared.Head.{Head}
-use Rattle.rules.specs.Tables.{lastGeneration}
-use Rattle.rules.specs.Slots.{freed, raised}
+use Rattle.rules.specs.Tables.{lastGeneration, frameWidth, headerWidth, State, withElems}
+use Rattle.rules.specs.Slots.{freed, freeSlot, freeElement, freeShared, raised, raise}
+use Rattle.rules.specs.Runs.{linked, unlinked, left, removed}
+use Rattle.rules.specs.Calls.{Ready}
 use Rattle.rules.proofs.laws.Lists.{In}
-use Rattle.rules.proofs.laws.Columns.{upd, upd-same, upd-at, upd-other}
-use Rattle.rules.proofs.laws.Pools.{Pooled, keep, free, if-eq, if-ne}
-use Rattle.rules.proofs.laws.Working.{View, Links, Frame, Ring, Working, turn, prev-class}
+use Rattle.rules.proofs.laws.Columns.{upd, upd-same, upd-other, cols}
+use Rattle.rules.proofs.laws.Pools.{free, eqb-true, eqb-false}
+use Rattle.rules.proofs.laws.Working.{View, view, view-path, Ring, Working, turn, prev-class}
+use Rattle.rules.proofs.laws.Soundness.{shaped-of}
+use Rattle.rules.proofs.laws.Safe.{working}
+use Rattle.rules.proofs.laws.Stored.{Stored, Still, still-then, ready-still, live-stored}
+use Rattle.rules.proofs.laws.Rewritten.{length-linked}
+use Rattle.rules.proofs.laws.Leaving.{Counted, goes-on, last-one}
+use Rattle.rules.proofs.laws.Freed.{raised-least, raised-most, freeElement-still, left-still, raise-still}
 use Rattle.rules.proofs.laws.Links.{live-ne, ring-frame, Excised, links-remove, ring-remove}
 
 -- the frame `x` goes; its class then has the count `k` and the next free slot `z`, and the pool of classes is `r`
@@ -29,30 +36,6 @@ removeV v x k w z r = record {
   value = w;
   chain = z;
 }
-
-pub raised-least : (g : ℕ) → 1 ≤ raised g
-unfolding raised
-raised-least g = go (ℕ-discrete g lastGeneration)
-  where
-    go : Dec (g ≡ lastGeneration) → 1 ≤ raised g
-    go (yes e) = rw (if-eq g lastGeneration 1 (g + 1) e) (omega arith)
-    go (no e) = rw (if-ne g lastGeneration 1 (g + 1) e) (omega arith)
-
-pub raised-most : (g : ℕ) → g ≤ lastGeneration → raised g ≤ lastGeneration
-unfolding raised
-raised-most g h = go (ℕ-discrete g lastGeneration)
-  where
-    go : Dec (g ≡ lastGeneration) → raised g ≤ lastGeneration
-    go (yes e) = rw (if-eq g lastGeneration 1 (g + 1) e) (omega arith)
-    go (no e) = rw (if-ne g lastGeneration 1 (g + 1) e) (omega arith)
-
--- what is left to show of the class
-pub record Counted (v : View) (x : ℕ) (k w z : ℕ → ℕ) (r : Pool) : Type 0 where
-  pub shared : Pooled r k z
-  pub value-zero : (c : ℕ) → k c ≡ 0 → w c ≡ 0
-  pub chain-zero : (c : ℕ) → k c ≢ 0 → z c ≡ 0
-  pub other : (c : ℕ) → c ≢ v .class x → k c ≡ v .count c
-  pub mine : k (v .class x) ≡ v .count (v .class x) - 1
 
 module _ (v : View) (x : ℕ) (k w z : ℕ → ℕ) (r : Pool) (S : Working v) (hx : v .gen x ≢ 0) (C : Counted v x k w z r) where
   pub excised : Excised (v .gen) (v .prev) (v .next) (removeV v x k w z r .gen) (removeV v x k w z r .prev) (removeV v x k w z r .next) x
@@ -131,45 +114,50 @@ module _ (v : View) (x : ℕ) (k w z : ℕ → ℕ) (r : Pool) (S : Working v) (
                 (λ s f. excised .n-o s (λ q. e (sym (f .mine) ∙ ap (v .class) q)) (λ q. e (sym (f .mine) ∙ ap (v .class) q ∙ prev-class v S x hx)))),
           )
 
--- it goes on: the count falls by one
-module _ (v : View) (x : ℕ) (S : Working v) (hx : v .gen x ≢ 0) where
-  pub goes-on : v .count (v .class x) ≢ 1 → Counted v x (upd (v .count) (v .class x) (v .count (v .class x) - 1)) (v .value) (v .chain) (v .head .shared)
-  goes-on many =
-      let l = S .class-live x hx in
+-- ---- the book's rule
+pub removed-still : (st : State) (x : ℕ) → Still st (removed st x)
+unfolding removed unlinked
+removed-still st x =
+    let e = linked (st .elems) (view st .prev x) (view st .next x) in
+    let out : Still st (withElems st e) = record { elems = refl; shared = refl; elems-long = length-linked (st .elems) (view st .prev x) (view st .next x); shared-long = refl } in
+    let free = still-then out (freeElement-still (withElems st e) x) in
+    let gone = still-then free (left-still (freeElement (withElems st e) x) (view st .class x)) in
+    still-then gone (raise-still (left (freeElement (withElems st e) x) (view st .class x)))
+
+module _ (st : State) (R : Ready st) (x : ℕ) (hx : view st .gen x ≢ 0) where
+  abbrev class : ℕ
+  class = view st .class x
+
+  -- all slots that are written lie in their tables
+  near : record { frame : Stored frameWidth (st .elems) x; next : Stored frameWidth (st .elems) (view st .next x); prev : Stored frameWidth (st .elems) (view st .prev x); header : Stored headerWidth (st .shared) class }
+  near =
+      let H = shaped-of st (R .shape) in
+      let W = working st R in
       record {
-        shared = keep (S .shared) (v .class x) (v .count (v .class x) - 1) l (omega arith) (v .chain) (λ s e. refl);
-        value-zero = λ c. value-zero c (ℕ-discrete c (v .class x));
-        chain-zero = λ c. chain-zero c (ℕ-discrete c (v .class x));
-        other = λ c e. upd-other (v .count) (v .class x) (v .count (v .class x) - 1) c e;
-        mine = upd-same (v .count) (v .class x) (v .count (v .class x) - 1);
+        frame = live-stored (H .elems) (W .elems) x hx;
+        next = live-stored (H .elems) (W .elems) (view st .next x) (W .links .next-live x hx);
+        prev = live-stored (H .elems) (W .elems) (view st .prev x) (W .links .prev-live x hx);
+        header = live-stored (H .shared) (W .shared) class (W .class-live x hx);
       }
+
+  pub removed-on : view st .count class ≢ 1 → view (removed st x) ≡ removeV (view st) x (upd (view st .count) class (view st .count class - 1)) (view st .value) (view st .chain) (st .head .shared)
+  unfolding removed raise left freeElement unlinked linked freeSlot removeV
+  removed-on many =
+      let stored = near in
+      rw (eqb-false (view st .count class) 1 many)
+      (view-path _ _ refl (search cols) (search cols) (search cols) (search cols) (search cols) (search cols) (search cols) (search cols))
+
+  pub removed-last : view st .count class ≡ 1
+      → view (removed st x) ≡ removeV (view st) x (upd (view st .count) class 0) (upd (view st .value) class 0) (upd (view st .chain) class (st .head .shared .root)) (freed (st .head .shared) class)
+  unfolding removed raise left freeElement freeShared unlinked linked freeSlot removeV
+  removed-last one =
+      let stored = near in
+      rw (eqb-true (view st .count class) 1 one)
+      (view-path _ _ refl (search cols) (search cols) (search cols) (search cols) (search cols) (search cols) (search cols) (search cols))
+
+  pub remove-keeps : Ready (removed st x)
+  remove-keeps = ready-still R (removed-still st x) (go (ℕ-discrete (view st .count class) 1))
     where
-      value-zero : (c : ℕ) → Dec (c ≡ v .class x) → upd (v .count) (v .class x) (v .count (v .class x) - 1) c ≡ 0 → v .value c ≡ 0
-      value-zero c (yes e) h = absurd (omega (arith, S .class-live x hx, rw (e, upd-same) at h))
-      value-zero c (no e) h = S .value-zero c (rw upd-other at h)
-
-      chain-zero : (c : ℕ) → Dec (c ≡ v .class x) → upd (v .count) (v .class x) (v .count (v .class x) - 1) c ≢ 0 → v .chain c ≡ 0
-      chain-zero c (yes e) h = rw e (S .chain-zero (v .class x) (S .class-live x hx))
-      chain-zero c (no e) h = S .chain-zero c (rw upd-other at h)
-
-  -- the last frame: the class slot is freed
-  pub last-one : v .count (v .class x) ≡ 1
-      → Counted v x (upd (v .count) (v .class x) 0) (upd (v .value) (v .class x) 0) (upd (v .chain) (v .class x) (v .head .shared .root)) (freed (v .head .shared) (v .class x))
-  last-one one =
-      let l = S .class-live x hx in
-      record {
-        shared = free (S .shared) (v .class x) l (upd (v .chain) (v .class x) (v .head .shared .root)) (upd-same (v .chain) (v .class x) (v .head .shared .root))
-            (λ s e. upd-other (v .chain) (v .class x) (v .head .shared .root) s (λ q. live-ne (v .count) l e (sym q)));
-        value-zero = λ c. value-zero c (ℕ-discrete c (v .class x));
-        chain-zero = λ c. chain-zero c (ℕ-discrete c (v .class x));
-        other = λ c e. upd-other (v .count) (v .class x) 0 c e;
-        mine = rw upd-same (omega arith);
-      }
-    where
-      value-zero : (c : ℕ) → Dec (c ≡ v .class x) → upd (v .count) (v .class x) 0 c ≡ 0 → upd (v .value) (v .class x) 0 c ≡ 0
-      value-zero c (yes e) h = rw (e, upd-same)
-      value-zero c (no e) h = rw upd-other (S .value-zero c (rw upd-other at h))
-
-      chain-zero : (c : ℕ) → Dec (c ≡ v .class x) → upd (v .count) (v .class x) 0 c ≢ 0 → upd (v .chain) (v .class x) (v .head .shared .root) c ≡ 0
-      chain-zero c (yes e) h = absurd (h (rw (e, upd-same)))
-      chain-zero c (no e) h = rw upd-other (S .chain-zero c (rw upd-other at h))
+      go : Dec (view st .count class ≡ 1) → Working (view (removed st x))
+      go (yes e) = rw (removed-last e) (remove-sound (view st) x _ _ _ _ (working st R) hx (last-one (view st) x (working st R) hx e))
+      go (no e) = rw (removed-on e) (remove-sound (view st) x _ _ _ _ (working st R) hx (goes-on (view st) x (working st R) hx e))

@@ -1,20 +1,19 @@
 -- A whole ring is freed, along next; then its class slot. On columns: sound before, sound after.
-use mathlib.Core.Path.{_≡_, refl, sym, ap, _∙_}
-use mathlib.Core.Logic.{_≢_, _⊎_, inl, inr}
-use mathlib.Core.List.{List, [], _∷_, _++_}
-use Prim.Native.Nat.{ℕ, zero, suc, _+_, _-_, _≤_, _<_}
+use mathlib.Core.Path.{_≡_, refl, sym, _∙_}
+use mathlib.Core.Logic.{_≢_, inl, inr}
+use mathlib.Core.List.{List, [], _∷_}
+use Prim.Native.Nat.{ℕ, _-_, _≤_}
 use native.Mathlib.Omega.{arith}
 use native.Mathlib.Decide.{ℕ-discrete}
 use Rattle.rules.specs.declared.Pool.{Pool}
-use Rattle.rules.specs.declared.Head.{Head}
 use Rattle.rules.specs.Tables.{lastGeneration}
 use Rattle.rules.specs.Slots.{freed, raised}
-use Rattle.rules.proofs.laws.Lists.{All, In, Out, NoDup, all-map, all-both, all-at, all-of, out-by, in-dec}
+use Rattle.rules.proofs.laws.Lists.{All, In, Out, NoDup, all-map, all-both, all-of, out-by, in-dec}
 use Rattle.rules.proofs.laws.Columns.{upd, upd-same, upd-other}
 use Rattle.rules.proofs.laws.Pools.{Pooled, free}
-use Rattle.rules.proofs.laws.Working.{View, Links, Frame, Ring, Working, next-class, prev-class}
+use Rattle.rules.proofs.laws.Working.{View, Frame, Ring, Working, next-class, prev-class}
 use Rattle.rules.proofs.laws.Links.{live-ne, ring-frame}
-use Rattle.rules.proofs.laws.Remove.{raised-least, raised-most}
+use Rattle.rules.proofs.laws.Freed.{raised-least, raised-most}
 
 -- 0 at each slot of the list
 abbrev pub wipe : List ℕ → (ℕ → ℕ) → ℕ → ℕ

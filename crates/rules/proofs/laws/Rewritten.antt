@@ -1,14 +1,13 @@
 -- Union's two steps on the element table: class entries rewritten along a walk, and two next links exchanged.
-use mathlib.Core.Path.{_≡_, refl, sym, ap, _∙_, fun-ext}
-use mathlib.Core.Logic.{_≢_, _⊎_, inl, inr}
-use mathlib.Core.List.{List, [], _∷_, _++_}
+use mathlib.Core.Path.{_≡_, refl, sym, _∙_}
+use mathlib.Core.Logic.{inl, inr}
+use mathlib.Core.List.{List, [], _∷_}
 use Prim.Native.Nat.{ℕ, zero, suc, _*_, _≤_, _<_}
-use native.Mathlib.Omega.{arith}
 use lib.ListN.{length}
 use Rattle.rules.specs.Tables.{frameWidth, frameAt, generationOf, payloadOf, classOf, previousOf, nextOf, put}
 use Rattle.rules.specs.Runs.{linked, rewritten, exchanged}
 use Rattle.rules.proofs.laws.Lists.{All, In, Out, NoDup, Walk, all-map}
-use Rattle.rules.proofs.laws.Columns.{upd, upd-same, upd-at, upd-other, cols, length-put}
+use Rattle.rules.proofs.laws.Columns.{upd, upd-at, upd-other, cols, length-put}
 use Rattle.rules.proofs.laws.Stored.{Stored}
 
 -- the table `e′` is `e` with the class `c` at each slot of the list

@@ -1,21 +1,21 @@
 -- The book's soundness, a field for each clause of 01, and the working form are one: both directions.
 use mathlib.Core.Path.{_≡_, refl, sym, ap, _∙_}
-use mathlib.Core.Logic.{_≢_, _⊎_, inl, inr}
+use mathlib.Core.Logic.{_≢_}
 use mathlib.Core.Bool.{Bool, true, false, _&&_}
-use mathlib.Core.List.{List, [], _∷_, _++_}
-use Prim.Native.Nat.{ℕ, zero, suc, _+_, _-_, _*_, _≤_, _<_}
+use mathlib.Core.List.{List, _∷_}
+use Prim.Native.Nat.{ℕ, zero, suc, _-_, _*_, _≤_, _<_}
 use native.Mathlib.Omega.{arith}
 use native.Mathlib.Decide.{ℕ-discrete}
 use lib.Dec.{T, leb→le, le→leb, eqb→eq, eqb-refl}
 use lib.ListN.{length}
 use Rattle.rules.specs.Notation.{_==_, _≤?_, steps, along}
-use Rattle.rules.specs.Tables.{mostSlots, lastGeneration, frameWidth, headerWidth, classOf, nextOf, countOf, State, elemSide, sharedSide, fieldOf, isLive, sizeAt}
+use Rattle.rules.specs.Tables.{mostSlots, lastGeneration, frameWidth, headerWidth, nextOf, State, elemSide, sharedSide, sizeAt}
 use Rattle.rules.specs.Sound.{fits, bothFit, Sound, Frame, Header, OneRing, RingSize}
 use Rattle.rules.specs.Refusals.{shaped}
-use Rattle.rules.proofs.laws.Lists.{All, In, NoDup, Walk}
+use Rattle.rules.proofs.laws.Lists.{Walk}
 use Rattle.rules.proofs.laws.Steps.{length-along, along-walk, walk-end, walk-when, walk-once, all-along, along-once, reached, steps-stay, round-none-twice}
 use Rattle.rules.proofs.laws.Pools.{Pooled, live-in}
-use Rattle.rules.proofs.laws.Sides.{and-T, T-and, LiveIn, live-of, live-to, Kept, Blank, blank-of, pooled-of, kept-of}
+use Rattle.rules.proofs.laws.Sides.{and-T, T-and, live-of, live-to, Kept, Blank, blank-of, pooled-of, kept-of}
 use Rattle.rules.proofs.laws.Working.{View, view, Working, Ring, turn, next-class}
 use Rattle.rules.proofs.laws.Working
 

@@ -1,13 +1,13 @@
 -- Steps and walks: a book's walk is counted in steps, a working one lists what it meets. They are the same.
 use mathlib.Core.Path.{_≡_, refl, sym, ap, _∙_}
 use mathlib.Core.Logic.{_≢_, _⊎_, inl, inr}
-use mathlib.Core.List.{List, [], _∷_, _++_}
+use mathlib.Core.List.{List, [], _∷_}
 use Prim.Native.Nat.{ℕ, zero, suc, _+_, _-_, _≤_, _<_}
 use native.Mathlib.Nat.{zero-add, suc-add}
 use native.Mathlib.Omega.{arith}
 use lib.ListN.{length}
 use Rattle.rules.specs.Notation.{steps, along}
-use Rattle.rules.proofs.laws.Lists.{All, In, Out, NoDup, Walk, all-of, all-at}
+use Rattle.rules.proofs.laws.Lists.{All, In, NoDup, Walk, all-at}
 
 module _ {A : Type 0} (n : A → A) where
   pub steps-add : (j k : ℕ) (a : A) → steps n (j + k) a ≡ steps n k (steps n j a)

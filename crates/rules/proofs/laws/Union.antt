@@ -1,20 +1,18 @@
 -- Union: the columns after it, and that it keeps a sound state. The class of `a` is kept.
 use mathlib.Core.Path.{_≡_, refl, sym, ap, _∙_, fun-ext}
 use mathlib.Core.Logic.{_≢_, _⊎_, inl, inr}
-use mathlib.Core.List.{List, [], _∷_, _++_}
-use Prim.Native.Nat.{ℕ, zero, suc, _+_, _≤_, _<_}
+use mathlib.Core.List.{_∷_}
+use Prim.Native.Nat.{ℕ, _+_}
 use native.Mathlib.Omega.{arith}
 use native.Mathlib.Decide.{ℕ-discrete}
-use Rattle.rules.specs.declared.Pool.{Pool}
-use Rattle.rules.specs.declared.Head.{Head}
-use Rattle.rules.specs.Tables.{frameWidth, classOf, nextOf, State, sizeAt}
+use Rattle.rules.specs.Tables.{frameWidth, classOf, State, sizeAt}
 use Rattle.rules.specs.Slots.{freed, freeSlot, freeShared}
-use Rattle.rules.specs.Runs.{rewritten, exchanged, joined}
+use Rattle.rules.specs.Runs.{rewritten, joined}
 use Rattle.rules.specs.Calls.{Ready}
-use Rattle.rules.proofs.laws.Lists.{In, all-map, out-by}
+use Rattle.rules.proofs.laws.Lists.{all-map, out-by}
 use Rattle.rules.proofs.laws.Columns.{upd, upd-same, upd-at, upd-other, cols, length-put, length-row}
-use Rattle.rules.proofs.laws.Pools.{Pooled, relink, keep, free}
-use Rattle.rules.proofs.laws.Working.{View, view, view-path, Links, Frame, Ring, Working, turn}
+use Rattle.rules.proofs.laws.Pools.{relink, keep, free}
+use Rattle.rules.proofs.laws.Working.{View, view, view-path, Frame, Ring, Working, turn}
 use Rattle.rules.proofs.laws.Soundness.{shaped-of, ring-at}
 use Rattle.rules.proofs.laws.Safe.{working}
 use Rattle.rules.proofs.laws.Stored.{Stored, Still, ready-still, live-stored}
