@@ -1,17 +1,30 @@
 -- Insert steps the history: the new key stands immediately after the target (Rules 5).
 use mathlib.Core.Path.{_≡_, refl, sym, ap, _∙_, subst, subst⁻¹, subst₂}
 use mathlib.Core.Logic.{_≢_, _⊎_, inl, inr}
+use mathlib.Core.Bool.{false}
 use mathlib.Core.List.{List, [], _∷_, _++_, append-assoc}
-use Prim.Native.Nat.{ℕ}
+use Prim.Native.Nat.{ℕ, suc, _+_}
+use native.Mathlib.Omega.{arith}
 use native.Mathlib.Decide.{ℕ-discrete}
 use Rattle.rules.specs.declared.Key.{Key}
 use Rattle.rules.specs.Notation.{flat}
-use Rattle.rules.specs.History.{othersOf, runsBut, insertedRuns}
+use Rattle.rules.specs.History.{History, frames, othersOf, runOf, runsBut, insertedRuns, accepted}
 use Rattle.rules.proofs.laws.Lists.{All, In, all-map, all-both, all-parts, cycles-frame, walk-frame}
-use Rattle.rules.proofs.laws.Working.{View, Links}
+use Rattle.rules.proofs.laws.Working.{View, view, Links}
 use Rattle.rules.proofs.laws.Links.{live-ne, Spliced}
-use Rattle.rules.proofs.laws.Fronted.{fronted}
+use Rattle.rules.proofs.laws.Fronted.{fronted, same-length}
 use Rattle.rules.proofs.laws.Rep.{keyAt, nextKey, LiveKey, Rep, rep-same, slots-apart, held, key-at}
+use Rattle.rules.specs.Tables.{State, elemSide}
+use Rattle.rules.specs.Slots.{slotOf, taken, isFull}
+use Rattle.rules.specs.Runs.{newKey, keyValues, inserted}
+use Rattle.rules.specs.Calls.{insert}
+use lib.ListN.{length}
+use Rattle.rules.proofs.laws.Columns.{upd-same}
+use Rattle.rules.proofs.laws.Pools.{Room, take}
+use Rattle.rules.proofs.laws.Safe.{working}
+use Rattle.rules.proofs.laws.Stored.{room}
+use Rattle.rules.proofs.laws.Insert.{insertV, spliced, inserted-view, insert-keeps}
+use Rattle.rules.proofs.laws.Good.{Good}
 
 module _ (v v′ : View) (k : Key) (i : ℕ) (L : Links (v .gen) (v .prev) (v .next)) (S : Spliced (v .gen) (v .prev) (v .next) (v′ .gen) (v′ .prev) (v′ .next) (k .slot) i) where
   rep-second : (xs : List Key) (hs : List (List Key)) → Rep v ((k ∷ xs) ∷ hs) → Rep v′ ((k ∷ keyAt v′ i ∷ xs) ∷ hs)
@@ -56,3 +69,27 @@ module _ (v v′ : View) (k : Key) (i : ℕ) (L : Links (v .gen) (v .prev) (v .n
   pub rep-insert : (h : List (List Key)) → LiveKey v k → Rep v h → Rep v′ (insertedRuns k (keyAt v′ i) h)
   unfolding insertedRuns
   rep-insert h l R = rep-second (othersOf k h) (runsBut k h) (rep-same v (fronted k h (R .once) (held v h k R l)) R)
+
+-- state and history together
+module _ (st : State) (h : History) (G : Good st h) (k : Key) (payload : ℕ) (l : LiveKey (view st) k) (some : isFull (st .head .elems) ≡ false) where
+  free : Room (st .head .elems)
+  free = room (working st (G .ready) .elems) some
+
+  rings : Rep (view (inserted st (k .slot) payload)) (insertedRuns k (newKey st) (h .runs))
+  unfolding insertV
+  rings =
+      let W = working st (G .ready) in
+      let i = slotOf (st .head .elems) in
+      let v′ = insertV (view st) (k .slot) payload i (taken (elemSide st)) in
+      let e : keyAt v′ i ≡ newKey st = λ j. record { slot = i; generation = upd-same (view st .gen) i (st .head .generation) j } in
+      rw (inserted-view st (G .ready) (k .slot) payload (l .live) free)
+      (subst (λ (j : Key). Rep v′ (insertedRuns k j (h .runs))) e
+      (rep-insert (view st) v′ k i (W .links) (spliced (view st) (k .slot) payload i (taken (elemSide st)) W (l .live) (take (elemSide st) (W .elems) free)) (h .runs) l (G .rings)))
+
+  frames-put : length (flat (insertedRuns k (newKey st) (h .runs))) ≡ frames h + 1
+  unfolding insertedRuns
+  frames-put = omega (arith, same-length (fronted k (h .runs) (G .rings .once) (held (view st) (h .runs) k (G .rings) l)))
+
+  pub good-insert : Good (inserted st (k .slot) payload) (accepted h (insert k payload) (keyValues (newKey st)))
+  unfolding inserted
+  good-insert = record { ready = insert-keeps st (G .ready) (k .slot) payload (l .live) free; rings = rings; generation = G .generation; counts = omega (arith, frames-put, G .counts) }

@@ -1,18 +1,28 @@
 -- Union steps the history: the run of one key is put in after the other (Rules 6).
 use mathlib.Core.Path.{_≡_, refl, sym, ap, _∙_, subst, subst⁻¹, subst₂}
 use mathlib.Core.Logic.{_≢_, _⊎_, inl, inr}
+use mathlib.Core.Bool.{Bool, true, false}
 use mathlib.Core.List.{List, [], _∷_, _++_, append-assoc}
-use Prim.Native.Nat.{ℕ}
+use Prim.Native.Nat.{ℕ, suc, _+_}
+use native.Mathlib.Omega.{arith}
 use native.Mathlib.Decide.{ℕ-discrete}
 use Rattle.rules.specs.declared.Key.{Key}
 use Rattle.rules.specs.Notation.{flat}
-use Rattle.rules.specs.History.{othersOf, runOf, runsBut, joinedRuns}
+use Rattle.rules.specs.History.{History, frames, accepted, othersOf, runOf, runsBut, joinedRuns}
 use Rattle.rules.proofs.laws.Lists.{All, In, NoDup, Walk, all-both, all-at, all-of, all-append, all-parts, in-left, in-right, in-parts, nodup-parts, nodup-append, across, cycles-frame, walk-frame, walk-join}
-use Rattle.rules.proofs.laws.Working.{View, Working}
-use Rattle.rules.proofs.laws.Links.{Exchanged}
-use Rattle.rules.proofs.laws.Fronted.{Same, under, in-over, nodup-over, fronted, others-but}
+use Rattle.rules.proofs.laws.Working.{View, view, Working}
+use Rattle.rules.proofs.laws.Links.{Exchanged, exchanged-sym}
+use Rattle.rules.proofs.laws.Fronted.{Same, under, via, same-length, in-over, nodup-over, fronted, others-but}
 use Rattle.rules.proofs.laws.Classes.{first-run, one-class}
 use Rattle.rules.proofs.laws.Rep.{keyAt, nextKey, LiveKey, Rep, rep-same, slots-apart, held, key-at}
+use lib.ListN.{length, length-append}
+use Rattle.rules.specs.Tables.{State}
+use Rattle.rules.specs.Runs.{joined}
+use Rattle.rules.specs.Calls.{Ready, union}
+use Rattle.rules.specs.Slots.{freeShared}
+use Rattle.rules.proofs.laws.Safe.{working}
+use Rattle.rules.proofs.laws.Union.{joinedV, links-exchanged, joined-view, joined-keeps}
+use Rattle.rules.proofs.laws.Good.{Good}
 
 nodup-exchange : (a b : Key) (xs ys : List Key) → NoDup (b ∷ (ys ++ a ∷ xs)) → NoDup (a ∷ (ys ++ b ∷ xs))
 nodup-exchange a b xs ys d =
@@ -72,15 +82,15 @@ module _ (v v′ : View) (a b : Key) (X : Exchanged (v .prev) (v .next) (v′ .p
       next-o : (x : Key) → LiveKey v a → LiveKey v b → LiveKey v x → a ≢ x → b ≢ x → nextKey v′ x ≡ nextKey v x
       next-o x la lb l n m = ap (keyAt v′) (X .n-o (x .slot) (slots-apart v x a l la (λ e. n (sym e))) (slots-apart v x b l lb (λ e. m (sym e)))) ∙ keeps (v .next (x .slot))
 
-module _ (v v′ : View) (S : Working v) (a b : Key) (X : Exchanged (v .prev) (v .next) (v′ .prev) (v′ .next) (a .slot) (b .slot)) (g-same : (s : ℕ) → v′ .gen s ≡ v .gen s)
-    (la : LiveKey v a) (lb : LiveKey v b) (differ : v .class (a .slot) ≢ v .class (b .slot)) where
-  pub rep-union : (h : List (List Key)) → Rep v h → Rep v′ (joinedRuns a b h)
-  unfolding joinedRuns
-  rep-union h R =
-      let Rb : Rep v (runOf b h ∷ runsBut b h) = rep-same v (fronted b h (R .once) (held v h b R lb)) R in
+module _ (v : View) (S : Working v) (a b : Key) (la : LiveKey v a) (lb : LiveKey v b) (differ : v .class (a .slot) ≢ v .class (b .slot)) where
+  -- both runs come to the front
+  pub both-fronted : (h : List (List Key)) → Rep v h → Same h (runOf b h ∷ runOf a h ∷ runsBut a (runsBut b h))
+  both-fronted h R =
+      let f = fronted b h (R .once) (held v h b R lb) in
+      let Rb : Rep v (runOf b h ∷ runsBut b h) = rep-same v f R in
       let m : In a (flat (runsBut b h)) = elsewhere (othersOf b h) (runsBut b h) Rb (held v (runOf b h ∷ runsBut b h) a Rb la) in
       let d : NoDup (flat (runsBut b h)) = nodup-parts (runOf b h) (flat (runsBut b h)) (Rb .once) .1 in
-      rw (← (others-but a b h (R .once) (held v h b R lb) m)) (rep-between v v′ a b X g-same (othersOf a (runsBut b h)) (othersOf b h) (runsBut a (runsBut b h)) (rep-same v (under (fronted a (runsBut b h) d m)) Rb))
+      rw (← (others-but a b h (R .once) (held v h b R lb) m)) (via f (under (fronted a (runsBut b h) d m)))
     where
       elsewhere : (ys : List Key) (hs : List (List Key)) → Rep v ((b ∷ ys) ∷ hs) → In a ((b ∷ ys) ++ flat hs) → In a (flat hs)
       elsewhere ys hs R m = go (in-parts a (b ∷ ys) (flat hs) m)
@@ -88,3 +98,32 @@ module _ (v v′ : View) (S : Working v) (a b : Key) (X : Exchanged (v .prev) (v
           go : In a (b ∷ ys) ⊎ In a (flat hs) → In a (flat hs)
           go (inl k) = absurd (differ (all-at (λ x. v .class (x .slot) ≡ v .class (b .slot)) a (b ∷ ys) (one-class v S b ys (first-run v (b ∷ ys) hs R)) k))
           go (inr k) = k
+
+  pub rep-union : (v′ : View) → Exchanged (v .prev) (v .next) (v′ .prev) (v′ .next) (a .slot) (b .slot) → ((s : ℕ) → v′ .gen s ≡ v .gen s) → (h : List (List Key)) → Rep v h → Rep v′ (joinedRuns a b h)
+  unfolding joinedRuns
+  rep-union v′ X g-same h R = rep-between v v′ a b X g-same (othersOf a h) (othersOf b h) (runsBut a (runsBut b h)) (rep-same v (both-fronted h R) R)
+
+-- state and history together, whichever class is kept
+module _ (st : State) (h : History) (G : Good st h) (j k : Key) (lj : LiveKey (view st) j) (lk : LiveKey (view st) k) (differ : view st .class (j .slot) ≢ view st .class (k .slot)) where
+  abbrev crossed : ℕ → ℕ → Type 0
+  crossed x y = Exchanged (view st .prev) (view st .next) (joinedV (view st) x y .prev) (joinedV (view st) x y .next) (j .slot) (k .slot)
+
+  rings : (x y : ℕ) → view (joined st x y) ≡ joinedV (view st) x y → crossed x y → Rep (view (joined st x y)) (joinedRuns j k (h .runs))
+  unfolding joinedV
+  rings x y e X = rw e (rep-union (view st) (working st (G .ready)) j k lj lk differ (joinedV (view st) x y) X (λ s. refl) (h .runs) (G .rings))
+
+  frames-same : length (flat (joinedRuns j k (h .runs))) ≡ frames h
+  unfolding joinedRuns
+  frames-same = simp length-append (omega (arith, simp length-append at (same-length (both-fronted (view st) (working st (G .ready)) j k lj lk differ (h .runs) (G .rings)))))
+
+  good : (x y : ℕ) (values : List ℕ) → Rep (view (joined st x y)) (joinedRuns j k (h .runs)) → Ready (joined st x y) → Good (joined st x y) (accepted h (union j k) values)
+  unfolding joined freeShared
+  good x y values R Y = record { ready = Y; rings = R; generation = G .generation; counts = omega (arith, frames-same, G .counts) }
+
+  pub good-first : (values : List ℕ) → Good (joined st (j .slot) (k .slot)) (accepted h (union j k) values)
+  good-first values = good (j .slot) (k .slot) values (rings (j .slot) (k .slot) (joined-view st (G .ready) (j .slot) (k .slot) (lj .live) (lk .live)) (links-exchanged (view st) (j .slot) (k .slot) (working st (G .ready)) (lj .live) (lk .live) differ))
+      (joined-keeps st (G .ready) (j .slot) (k .slot) (lj .live) (lk .live) differ)
+
+  pub good-second : (values : List ℕ) → Good (joined st (k .slot) (j .slot)) (accepted h (union j k) values)
+  good-second values = good (k .slot) (j .slot) values (rings (k .slot) (j .slot) (joined-view st (G .ready) (k .slot) (j .slot) (lk .live) (lj .live)) (exchanged-sym (links-exchanged (view st) (k .slot) (j .slot) (working st (G .ready)) (lk .live) (lj .live) (λ e. differ (sym e)))))
+      (joined-keeps st (G .ready) (k .slot) (j .slot) (lk .live) (lj .live) (λ e. differ (sym e)))
