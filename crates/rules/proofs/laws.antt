@@ -37,3 +37,4 @@ pub mod Leaving
 pub mod Remove
 pub mod RemoveShared
 pub mod Ascending
+pub mod Blocks

@@ -8,19 +8,18 @@ use native.Mathlib.Nat.{le-of-suc-le-suc}
 use native.Mathlib.Omega.{arith}
 use lib.ListN.{length, getD, length-append, List·getD-append}
 use lib.Seq.{getD-append-add}
-use lib.Dec.{T}
 use Rattle.rules.specs.declared.Key.{Key}
-use Rattle.rules.specs.Notation.{along, upTo, flat, keep}
+use Rattle.rules.specs.Notation.{along, flat}
 use Rattle.rules.specs.Tables.{State, sizeAt, nextOf}
 use Rattle.rules.specs.Drains.{ring}
-use Rattle.rules.specs.Compress.{isLowest, lowestSlots, canonicalFrames, canonicalClasses, placeOf}
+use Rattle.rules.specs.Compress.{lowestSlots, canonicalFrames, canonicalClasses, placeOf}
 use Rattle.rules.specs.History.{sorted, renamed}
-use Rattle.rules.proofs.laws.Lists.{All, In, NoDup, Cycle, all-map, all-of, all-image, in-map, nodup-image, walk-image}
+use Rattle.rules.proofs.laws.Lists.{All, In, NoDup, Cycle, all-map, all-image, in-map, nodup-image, walk-image}
 use Rattle.rules.proofs.laws.Steps.{length-along}
-use Rattle.rules.proofs.laws.Sums.{keep-of}
 use Rattle.rules.proofs.laws.Working.{View, view, Working}
 use Rattle.rules.proofs.laws.Places.{place-at, upto, upto-in}
-use Rattle.rules.proofs.laws.Order.{Looked, free, first, later, looked, Listed, Round, round, frames-listed}
+use Rattle.rules.proofs.laws.Order.{Listed, Round, round, frames-listed}
+use Rattle.rules.proofs.laws.Blocks.{runsOf, frames-flat, lowest-live}
 use Rattle.rules.proofs.laws.Compress.{generationAfter, compressed, byPlace, frame-column, compress-renumbers}
 use Rattle.rules.proofs.laws.Rep.{keyAt, nextKey, LiveKey, Rep}
 use Rattle.rules.proofs.laws.Histories.Renumber.{flat-image, rekeyed, rep-renumbered}
@@ -63,32 +62,19 @@ module _ (st : State) (W : Working (view st)) where
   v = view st
 
   abbrev runs : List (List ℕ)
-  runs = map (ring st) (lowestSlots st)
-
-  flat-runs : flat (map (ring st) (lowestSlots st)) ≡ canonicalFrames st
-  unfolding canonicalFrames
-  flat-runs = refl
-
-  lowest-live : All (λ x. view st .gen x ≢ 0) (lowestSlots st)
-  unfolding lowestSlots
-  lowest-live = all-of (λ x. v .gen x ≢ 0) (lowestSlots st) (λ x m. go x (isLowest st x) (looked st W x) (keep-of (isLowest st) x (upTo (st .head .elems .extent)) m .1))
-    where
-      go : (x : ℕ) (b : Bool) → Looked st x b → T b → v .gen x ≢ 0
-      go x b (free e) t = absurd t
-      go x b (later h z i l) t = absurd t
-      go x b (first h f) t = h
+  runs = runsOf st
 
   ring-cycle : (x : ℕ) → v .gen x ≢ 0 → Cycle (nextKey v) (map (keyAt v) (ring st x))
   ring-cycle x h =
       let O = round st W x h in
       rw (O .begins) (walk-image (keyAt v) (v .next) (nextKey v) (λ y. refl) (v .next x) x (O .rest) (O .round))
 
-  canonical-rep : Rep (view st) (map (map (keyAt (view st))) (map (ring st) (lowestSlots st)))
+  canonical-rep : Rep (view st) (map (map (keyAt (view st))) (runsOf st))
   canonical-rep =
       let L = frames-listed st W in
-      let e : flat (map (map (keyAt v)) runs) ≡ map (keyAt v) (canonicalFrames st) = flat-image (keyAt v) runs ∙ ap (map (keyAt v)) flat-runs in
+      let e : flat (map (map (keyAt v)) runs) ≡ map (keyAt v) (canonicalFrames st) = flat-image (keyAt v) runs ∙ ap (map (keyAt v)) (sym (frames-flat st)) in
       record {
-        rings = all-image (map (keyAt v)) (Cycle (nextKey v)) runs (all-image (ring st) (λ r. Cycle (nextKey v) (map (keyAt v) r)) (lowestSlots st) (all-map ring-cycle (lowestSlots st) lowest-live));
+        rings = all-image (map (keyAt v)) (Cycle (nextKey v)) runs (all-image (ring st) (λ r. Cycle (nextKey v) (map (keyAt v) r)) (lowestSlots st) (all-map ring-cycle (lowestSlots st) (lowest-live st W)));
         live = rw e (all-image (keyAt v) (LiveKey v) (canonicalFrames st) (all-map (λ s h. record { live = h; gen = refl }) (canonicalFrames st) (L .live)));
         once = rw e (nodup-image (keyAt v) (λ s. v .gen s ≢ 0) (canonicalFrames st) (λ a b h k n q. n (ap (λ (z : Key). z .slot) q)) (L .live) (L .once));
         whole = λ s h. rw e (in-map (keyAt v) s (canonicalFrames st) (L .whole s h));
