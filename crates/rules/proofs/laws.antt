@@ -35,6 +35,7 @@ pub mod Union
 pub mod Freed
 pub mod Leaving
 pub mod Remove
+pub mod Wiped
 pub mod RemoveShared
 pub mod Ascending
 pub mod Blocks

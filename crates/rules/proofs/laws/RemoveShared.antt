@@ -1,64 +1,24 @@
--- A whole ring is freed, along next; then its class slot. On columns: sound before, sound after.
-use mathlib.Core.Path.{_≡_, refl, sym, _∙_}
-use mathlib.Core.Logic.{_≢_, inl, inr}
-use mathlib.Core.List.{List, [], _∷_}
+-- Remove shared: a whole ring is freed, along next, then its class slot. The columns after it, and that it keeps a sound state.
+use mathlib.Core.Path.{_≡_, refl, sym, ap, _∙_}
+use mathlib.Core.Logic.{_≢_}
+use mathlib.Core.List.{List, _∷_}
 use Prim.Native.Nat.{ℕ, _-_, _≤_}
 use native.Mathlib.Omega.{arith}
 use native.Mathlib.Decide.{ℕ-discrete}
-use Rattle.rules.specs.declared.Pool.{Pool}
-use Rattle.rules.specs.Tables.{lastGeneration}
-use Rattle.rules.specs.Slots.{freed, raised}
-use Rattle.rules.proofs.laws.Lists.{All, In, Out, NoDup, all-map, all-both, all-of, out-by, in-dec}
+use Rattle.rules.specs.Tables.{lastGeneration, classOf, State, sizeAt}
+use Rattle.rules.specs.Slots.{freed, freeShared, raised, raise}
+use Rattle.rules.specs.Drains.{freeRing}
+use Rattle.rules.specs.Calls.{Ready}
+use Rattle.rules.proofs.laws.Lists.{In, Out, all-map, out-by, in-dec}
 use Rattle.rules.proofs.laws.Columns.{upd, upd-same, upd-other}
-use Rattle.rules.proofs.laws.Pools.{Pooled, free}
-use Rattle.rules.proofs.laws.Working.{View, Frame, Ring, Working, next-class, prev-class}
+use Rattle.rules.proofs.laws.Pools.{free}
+use Rattle.rules.proofs.laws.Working.{View, view, Frame, Ring, Working, next-class, prev-class}
+use Rattle.rules.proofs.laws.Soundness.{shaped-of, ring-at}
+use Rattle.rules.proofs.laws.Safe.{working}
+use Rattle.rules.proofs.laws.Stored.{Still, still-then, ready-still, live-stored}
 use Rattle.rules.proofs.laws.Links.{live-ne, ring-frame}
-use Rattle.rules.proofs.laws.Freed.{raised-least, raised-most}
-
--- 0 at each slot of the list
-abbrev pub wipe : List ℕ → (ℕ → ℕ) → ℕ → ℕ
-wipe [] f = f
-wipe (x ∷ xs) f = wipe xs (upd f x 0)
-
--- each slot of the list names the one freed before it
-abbrev pub thread : List ℕ → ℕ → (ℕ → ℕ) → ℕ → ℕ
-thread [] r n = n
-thread (x ∷ xs) r n = thread xs x (upd n x r)
-
-abbrev pub freedAll : List ℕ → Pool → Pool
-freedAll [] p = p
-freedAll (x ∷ xs) p = freedAll xs (freed p x)
-
-wipe-out : (xs : List ℕ) (f : ℕ → ℕ) (s : ℕ) → Out s xs → wipe xs f s ≡ f s
-wipe-out [] f s o = refl
-wipe-out (x ∷ xs) f s o = wipe-out xs (upd f x 0) s (o .1) ∙ upd-other f x 0 s (o .0)
-
-wipe-zero : (xs : List ℕ) (f : ℕ → ℕ) (s : ℕ) → f s ≡ 0 → wipe xs f s ≡ 0
-wipe-zero [] f s e = e
-wipe-zero (x ∷ xs) f s e = wipe-zero xs (upd f x 0) s (go (ℕ-discrete s x))
-  where
-    go : Dec (s ≡ x) → upd f x 0 s ≡ 0
-    go (yes q) = rw (q, upd-same)
-    go (no q) = upd-other f x 0 s q ∙ e
-
-wipe-in : (xs : List ℕ) (f : ℕ → ℕ) (s : ℕ) → In s xs → wipe xs f s ≡ 0
-wipe-in (x ∷ xs) f s (inl e) = wipe-zero xs (upd f x 0) s (rw (e, upd-same))
-wipe-in (x ∷ xs) f s (inr m) = wipe-in xs (upd f x 0) s m
-
-thread-out : (xs : List ℕ) (r : ℕ) (n : ℕ → ℕ) (s : ℕ) → Out s xs → thread xs r n s ≡ n s
-thread-out [] r n s o = refl
-thread-out (x ∷ xs) r n s o = thread-out xs x (upd n x r) s (o .1) ∙ upd-other n x r s (o .0)
-
--- all are freed
-pub pool-all : (xs : List ℕ) {p : Pool} {g n : ℕ → ℕ} → Pooled p g n → NoDup xs → All (λ s. g s ≢ 0) xs → Pooled (freedAll xs p) (wipe xs g) (thread xs (p .root) n)
-unfolding freed
-pool-all [] P u h = P
-pool-all (x ∷ xs) {p} {g} {n} P u h =
-    pool-all xs (free P x (h .0) (upd n x (p .root)) (upd-same n x (p .root)) (λ s e. upd-other n x (p .root) s (λ q. h .0 (rw q at e)))) (u .1)
-    (all-both {P = λ s. x ≢ s} {Q = λ s. g s ≢ 0} (λ s o l. rw (upd-other g x 0 s (λ q. o (sym q))) l) xs (u .0) (h .1))
-
-not-in : (s : ℕ) (xs : List ℕ) → (In s xs → ⊥) → Out s xs
-not-in s xs h = all-of (λ y. s ≢ y) xs (λ y m e. h (rw e m))
+use Rattle.rules.proofs.laws.Wiped.{wipe, thread, freedAll, wipe-out, wipe-zero, wipe-in, thread-out, not-in, pool-all, freeRing-still, freeAllV, freeRing-view}
+use Rattle.rules.proofs.laws.Freed.{raiseV, raised-least, raised-most, freeShared-still, raise-still, freeSharedV, freeShared-view}
 
 unfoldable pub removeSharedV : View → ℕ → List ℕ → View
 removeSharedV v c xs = record {
@@ -142,3 +102,33 @@ module _ (v : View) (c x : ℕ) (S : Working v) (hc : v .count c ≢ 0) (r : Rin
                 (λ s f. let k = kept s (f .live) in record { live = k .live; mine = sym (wipe-out xs (v .class) s (k .out)) ∙ f .mine })
                 (λ s f. thread-out xs (v .head .elems .root) (v .next) s (outside s (λ q. e (sym (f .mine) ∙ q))))),
           )
+
+-- ---- the book's rule
+
+-- the state that remove shared leaves
+abbrev pub ringRemoved : State → (x : ℕ) → State
+ringRemoved st x = raise (freeShared (freeRing (sizeAt st x) st x) (classOf (st .elems) x))
+
+pub ringRemoved-still : (st : State) (x : ℕ) → Still st (ringRemoved st x)
+ringRemoved-still st x =
+    let s = freeRing (sizeAt st x) st x in
+    still-then (freeRing-still (sizeAt st x) st x) (still-then (freeShared-still s (view st .class x)) (raise-still (freeShared s (view st .class x))))
+
+module _ (st : State) (R : Ready st) (x : ℕ) (hx : view st .gen x ≢ 0) where
+  pub ringRemoved-view : view (ringRemoved st x) ≡ removeSharedV (view st) (view st .class x) (x ∷ ring-at (view st) (working st R) x hx .rest)
+  unfolding removeSharedV freeAllV freeSharedV raise
+  ringRemoved-view =
+      let H = shaped-of st (R .shape) in
+      let W = working st R in
+      let c = view st .class x in
+      let r = ring-at (view st) W x hx in
+      let s = freeRing (sizeAt st x) st x in
+      let free : view s ≡ freeAllV (view st) (x ∷ r .rest) = rw (r .sized) at (freeRing-view (x ∷ r .rest) st x x (refl, r .round) (r .once) (all-map (λ y f. live-stored (H .elems) (W .elems) y (f .live)) (x ∷ r .rest) (r .frames))) in
+      let sc = live-stored (H .shared) (W .shared) c (W .class-live x hx) in
+      let gone = freeShared-view s c (record { low = sc .low; high = rw (freeRing-still (sizeAt st x) st x .shared-long) (sc .high) }) in
+      ap raiseV (gone ∙ ap (λ (v : View). freeSharedV v c) free)
+
+  pub removeShared-keeps : Ready (ringRemoved st x)
+  removeShared-keeps =
+      ready-still R (ringRemoved-still st x)
+      (rw ringRemoved-view (removeShared-sound (view st) (view st .class x) x (working st R) (working st R .class-live x hx) (ring-at (view st) (working st R) x hx)))
