@@ -20,6 +20,7 @@ pub mod Good
 pub mod Refused
 pub mod Follows
 pub mod Histories
+pub mod UnionFrame
 pub mod Search
 pub mod Steps
 pub mod Sides

@@ -32,17 +32,23 @@ follows st lent h c r G (refused {r = Short}) = G
 follows st lent h c r G (refused {r = Malformed}) = G
 follows st lent h c r G (done g) = g
 
+-- what holds of every refusal and of what is ruled where a test or a key leads, holds of the ruling
+module _ (P : Ruling → Type 0) where
+  pub by-test : (b : Bool) (p q : Ruling) → (b ≡ true → P p) → (b ≡ false → P q) → P (if b then p else q)
+  by-test true p q f g = f refl
+  by-test false p q f g = g refl
+
+  pub by-key : ((r : Refusal) → P (refuse r)) → (st : State) (k : Key) (rule : ℕ → Ruling) → (LiveKey st k → P (rule (k .slot))) → P (withLive st k rule)
+  by-key n st k rule f = go (found st k) refl
+    where
+      go : (x : Found) → found st k ≡ x → P (whenLive x rule)
+      go (lookup.Live x) e = let q : x ≡ k .slot = looked st k x e .same in rw q (f (e ∙ ap lookup.Live q))
+      go lookup.Dead e = n Dead
+
+-- the same of what leads to good states
 module _ (h : History) (c : Call) where
-  -- by a test, by a key
   pub either : (b : Bool) (p q : Ruling) → (b ≡ true → Follows h c p) → (b ≡ false → Follows h c q) → Follows h c (if b then p else q)
-  either true p q f g = f refl
-  either false p q f g = g refl
+  either = by-test (Follows h c)
 
   pub on-live : (st : State) (k : Key) (rule : ℕ → Ruling) → (LiveKey st k → Follows h c (rule (k .slot))) → Follows h c (withLive st k rule)
-  on-live st k rule f = go (found st k) refl
-    where
-      go : (x : Found) → found st k ≡ x → Follows h c (whenLive x rule)
-      go (lookup.Live x) e =
-          let q : x ≡ k .slot = looked st k x e .same in
-          rw q (f (e ∙ ap lookup.Live q))
-      go lookup.Dead e = refused
+  on-live = by-key (Follows h c) (λ r. refused)
