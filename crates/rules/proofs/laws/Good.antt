@@ -1,5 +1,5 @@
 -- Shape, soundness and the history at once; from it, what demand 3 claims of the tables.
-use mathlib.Core.Path.{_≡_, refl, subst}
+use mathlib.Core.Path.{_≡_, refl, sym, ap, _∙_, subst}
 use mathlib.Core.List.{List, [], _∷_, _++_, map}
 use Prim.Native.Nat.{ℕ, suc, _+_}
 use native.Mathlib.Omega.{arith}
@@ -11,7 +11,7 @@ use Rattle.rules.specs.Tables
 use Rattle.rules.specs.Tables.{countOf, State, found, sharedSide, sizeAt}
 use Rattle.rules.specs.Sound.{Header}
 use Rattle.rules.specs.Calls.{Ready}
-use Rattle.rules.specs.History.{History, frames, runOf, othersOf, runsBut}
+use Rattle.rules.specs.History.{History, frames, withRuns, runOf, othersOf, runsBut}
 use Rattle.rules.specs.Demand
 use Rattle.rules.specs.Demand.{headerOf, Agrees}
 use Rattle.rules.proofs.laws.Lists.{All, In, all-at}
@@ -21,7 +21,7 @@ use Rattle.rules.proofs.laws.Sides
 use Rattle.rules.proofs.laws.Working.{view, Working}
 use Rattle.rules.proofs.laws.Safe.{working, looked, found-live}
 use Rattle.rules.proofs.laws.Keys.{in-of, in-to, once-to}
-use Rattle.rules.proofs.laws.Fronted.{fronted}
+use Rattle.rules.proofs.laws.Fronted.{Same, same-length, fronted}
 use Rattle.rules.proofs.laws.Rep.{nextKey, LiveKey, Rep, rep-same, held}
 use Rattle.rules.proofs.laws.Classes.{Run, first-run, run-size, one-class, own-run}
 use Rattle.rules.proofs.laws.Headers.{counts-sum}
@@ -34,6 +34,10 @@ pub record Good (st : State) (h : History) : Type 0 where
   -- the frames are those put in, less those taken out
   pub counts : frames h + h .taken ≡ h .put
 
+-- the same history, written in another way
+pub good-same : {st : State} {h : History} (rs : List (List Key)) → Same (h .runs) rs → Good st h → Good st (withRuns h rs)
+good-same {st} {h} rs s G = record { ready = G .ready; rings = rep-same (view st) s (G .rings); generation = G .generation; counts = ap (λ (n : ℕ). n + h .taken) (sym (same-length s)) ∙ G .counts }
+
 -- a live key, as the book says it and as the laws do
 module _ (st : State) where
   pub live-of : (k : Key) → Tables.LiveKey st k → LiveKey (view st) k
@@ -45,9 +49,12 @@ module _ (st : State) where
       found-live st k (record { some = i .0; within = i .1; used = omega (arith, l .live) }) (l .gen)
 
 module _ (st : State) (h : History) (G : Good st h) where
-  -- the run of a live key, begun there
+  -- the run of a live key comes to the front, begun there
+  pub key-fronted : (k : Key) → LiveKey (view st) k → Same (h .runs) (runOf k (h .runs) ∷ runsBut k (h .runs))
+  key-fronted k l = fronted k (h .runs) (G .rings .once) (held (view st) (h .runs) k (G .rings) l)
+
   pub run-from : (k : Key) → LiveKey (view st) k → Run (view st) (runOf k (h .runs))
-  run-from k l = first-run (view st) (runOf k (h .runs)) (runsBut k (h .runs)) (rep-same (view st) (fronted k (h .runs) (G .rings .once) (held (view st) (h .runs) k (G .rings) l)) (G .rings))
+  run-from k l = first-run (view st) (runOf k (h .runs)) (runsBut k (h .runs)) (rep-same (view st) (key-fronted k l) (G .rings))
 
   pub size-from : (k : Key) → LiveKey (view st) k → length (runOf k (h .runs)) ≡ sizeAt st (k .slot)
   size-from k l = run-size (view st) (working st (G .ready)) k (othersOf k (h .runs)) (run-from k l)
