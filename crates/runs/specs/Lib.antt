@@ -1,0 +1,2 @@
+-- What the calls' inner steps ask and answer.
+pub mod Asked

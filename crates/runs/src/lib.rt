@@ -1,0 +1,9 @@
+// The calls on runs at the inner door (Modules 5): each equal to its rule, on a ready state.
+pub mod reads;
+
+pub use reads::get;
+pub use reads::get_shared;
+pub use reads::in_same_surject;
+pub use reads::len_surject;
+pub use reads::set;
+pub use reads::set_shared;
