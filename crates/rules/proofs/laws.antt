@@ -40,3 +40,5 @@ pub mod Wiped
 pub mod RemoveShared
 pub mod Ascending
 pub mod Blocks
+pub mod Sets
+pub mod Empty

@@ -8,7 +8,7 @@ use native.Mathlib.Omega.{arith}
 use native.Mathlib.Decide.{ℕ-discrete, decLt}
 use mathlib.Core.Bool.{not}
 use lib.Dec.{T, eqb, lit<, eqb-refl, T-not}
-use lib.ListN.{length, getD, set, length-set, List·getD-eq-default}
+use lib.ListN.{length, getD, set, length-set, List·getD-eq-default, replicate, length-replicate, getD-replicate}
 use lib.Seq.{sets, length-sets, getD-set-same, getD-set-other}
 use Rattle.rules.specs.Tables.{cell, put, row}
 
@@ -159,6 +159,19 @@ pub cell-out : (w : ℕ) (t : List ℕ) (f s capacity : ℕ) → length t ≡ ca
 unfolding cell
 cell-out w t f zero capacity e h = refl
 cell-out w t f (suc s) capacity e h = List·getD-eq-default t 0 (omega (arith, mul-le-mul-right w (le-of-suc-le-suc h)))
+
+-- nor is there in a table of zeros
+pub getD-zeros : (n i : ℕ) → getD {A = ℕ} (replicate n 0) i 0 ≡ 0
+getD-zeros n i = go (decLt i n)
+  where
+    go : Dec (i < n) → getD {A = ℕ} (replicate n 0) i 0 ≡ 0
+    go (yes l) = getD-replicate n i 0 0 l
+    go (no l) = List·getD-eq-default (replicate n 0) 0 (rw length-replicate (omega arith))
+
+pub cell-zeros : (w n f s : ℕ) → cell w (replicate n 0) f s ≡ 0
+unfolding cell
+cell-zeros w n f zero = refl
+cell-zeros w n f (suc s) = getD-zeros n (s * w + f)
 
 -- where the code finds a field, and all fields of a slot
 pub cell-index : (w : ℕ) (t : List ℕ) (f s : ℕ) → 0 < s → cell w t f s ≡ getD t ((s - 1) * w + f) 0
