@@ -1,0 +1,97 @@
+//! What the stand-in decides, and a trap of the original that document 01 names. (The doc examples of the three files run
+//! as doc tests.)
+
+use std::num::NonZeroUsize;
+use triple_arena::traits::*;
+use triple_arena::utils::{ArenaSlot, PtrNoGen};
+use triple_arena::utils::traits::{NonZeroInxGenericStack, PtrInx};
+use triple_arena::{SurjectArena, ptr_struct};
+
+ptr_struct!(P0);
+
+type A = SurjectArena<P0, u64, u64>;
+
+fn slots(a: &A, p: P0) -> Vec<usize> {
+    let ring = a.iter_surject(p).unwrap();
+    ring.map(|(p, _, _)| PtrInx::try_into_usize(p.inx()).unwrap().get()).collect()
+}
+
+fn sound(a: &A) {
+    A::_check_invariants(a).unwrap();
+}
+
+#[test]
+fn slots_and_generations() {
+    let mut a = A::with_min_capacity_separated(3, 2).unwrap();
+    let p = [10, 11, 12].map(|t| a.insert_surject(t, t));
+    assert_eq!(format!("{p:?}"), "[P0[1](2), P0[2](2), P0[3](2)]");
+    // the slot freed last is taken first
+    assert_eq!(a.remove_element(p[0]).allow(), Some((10, Some(10))));
+    assert_eq!(a.remove_element(p[2]).allow(), Some((12, Some(12))));
+    sound(&a);
+    let q = [20, 21].map(|t| a.insert(p[1], t));
+    assert_eq!(format!("{q:?}"), "[P0[3](4), P0[1](4)]");
+    sound(&a);
+    // a cleared arena begins at slot 1, one generation higher
+    a.clear().allow();
+    assert_eq!(format!("{:?}", a.insert_surject(30, 30)), "P0[1](5)");
+    sound(&a);
+}
+
+#[test]
+fn capacity_is_what_was_asked() {
+    let mut a = A::with_min_capacity_separated(2, 1).unwrap();
+    let p = a.insert_surject_within_capacity(1, 1).unwrap();
+    assert!(a.insert_surject_within_capacity(2, 2).is_err());
+    assert!(a.insert_within_capacity(p, 3).is_ok());
+    assert!(a.insert_within_capacity(p, 4).is_err());
+}
+
+#[test]
+fn the_side_of_next_to() {
+    let mut a = A::new();
+    let p = a.insert_surject(1, 1);
+    a.insert(p, 2);
+    a.insert(p, 3);
+    let ring = if cfg!(feature = "before") { [1, 2, 3] } else { [1, 3, 2] };
+    assert_eq!(slots(&a, p), ring);
+    sound(&a);
+}
+
+#[test]
+fn compression_orders_by_lowest_slot() {
+    let mut a = A::new();
+    let p = [1, 2, 3, 4].map(|t| a.insert_surject(t, 10 * t));
+    let _ = a.union(p[3], p[1]).unwrap();
+    a.remove_element(p[0]).allow();
+    a.compress_canonical(false).allow();
+    sound(&a);
+    // 2 and 4 are one run under 40, 3 is alone
+    let all: Vec<_> = a.iter_combined().map(|(p, t, s)| (format!("{p:?}"), *t, *s)).collect();
+    let expected = [("P0[1](4)", 2, 40), ("P0[2](4)", 4, 40), ("P0[3](4)", 3, 30)];
+    assert_eq!(all, expected.map(|(p, t, s)| (p.to_owned(), t, s)));
+    assert_eq!(slots(&a, a.find_first_inx_ptr().unwrap()), [1, 2]);
+    a.compress_canonical(true).allow();
+    assert_eq!(format!("{:?}", a.find_first_inx_ptr().unwrap()), "P0[1](2)");
+}
+
+/// `_check_surjects` never compares class entries along a ring: two rings of two, each with one frame of either class, pass
+/// it. Here they are refused 2.
+#[test]
+fn mixed_rings_pass_the_original_check() {
+    let mut a = A::new();
+    let (p, q) = (a.insert_surject(1, 100), a.insert_surject(2, 200));
+    let (p1, q1) = (a.insert(p, 11), a.insert(q, 22));
+    let class = |a: &mut A, p: P0, set| {
+        let inx: NonZeroUsize = p.inx();
+        // Safety: the test breaks the soft invariants on purpose
+        let ArenaSlot::Allocated(_, link) = unsafe { a.backing_mut() }.0.get_mut(inx).unwrap() else { unreachable!() };
+        std::mem::replace(&mut link.t.p_shared, set)
+    };
+    let placeholder = PtrNoGen::<P0>::invalid();
+    let class_p = class(&mut a, p1, placeholder);
+    let class_q = class(&mut a, q1, class_p);
+    class(&mut a, p1, class_q);
+    assert_eq!(A::_check_invariants(&a), Ok(()));
+    assert_eq!((a.get_shared(p), a.get_shared(p1)), (Some(&100), Some(&200)));
+}
