@@ -42,3 +42,5 @@ pub mod Ascending
 pub mod Blocks
 pub mod Sets
 pub mod Empty
+pub mod Drained
+pub mod Kept
