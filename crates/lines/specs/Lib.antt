@@ -1,0 +1,2 @@
+-- What the contracts of the script program's lines cite, beside Script of the rules.
+pub mod Put
