@@ -180,6 +180,7 @@ number-zero-first most b ys h = go (decLt most (valueOf 0 (48 ∷ b ∷ ys)))
     first : (n : ℕ) → n ≤ most → decimal n ≡ 48 ∷ b ∷ ys → ⊥
     first zero l e = omega (arith, ap length e)
     first (suc n) l e = digits-first 20 (suc n) (omega arith) (omega arith) .1 (ap (λ (ds : List ℕ). getD ds 0 0) e)
+
     go : Dec (most < valueOf 0 (48 ∷ b ∷ ys)) → number most (48 ∷ b ∷ ys) ≡ none
     go (yes l) = number-large most (48 ∷ b ∷ ys) l
     go (no l) = number-other most (48 ∷ b ∷ ys) (first (valueOf 0 (48 ∷ b ∷ ys)) (omega arith))

@@ -1,2 +1,4 @@
 pub mod Decimals
 pub mod Puts
+pub mod Pieces
+pub mod Reading

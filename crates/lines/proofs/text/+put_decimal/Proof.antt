@@ -66,7 +66,7 @@ put-decimal-put-decimal-requires : (t : ℕ) → put-decimal-lts.Need-put-decima
   put-decimal-below t,
   put-decimal.Post,
 ) (put-decimal-at t) put-decimal.Post
-put-decimal-put-decimal-requires t c κs = 
+put-decimal-put-decimal-requires t c κs =
     let s = c .before .before .before in
     let e = decimal-last (s .args .n) (omega arith) (omega (arith, s .fits .n)) in
     let l : length (decimal (s .args .n)) ≡ length (decimal (s .args .n / 10)) + 1 = ap length e ∙ simp length-append in
@@ -88,7 +88,7 @@ put-decimal-slice-write-out-2 : (t : ℕ) → put-decimal-lts.Need-slice-write-o
   put-decimal-below t,
   put-decimal.Post,
 ) (put-decimal-at t) put-decimal.Post
-put-decimal-slice-write-out-2 t c = 
+put-decimal-slice-write-out-2 t c =
     let s = c .before .before .before .before .before .before in
     let e = decimal-last (s .args .n) (omega arith) (omega (arith, s .fits .n)) in
     let l : length (decimal (s .args .n)) ≡ length (decimal (s .args .n / 10)) + 1 = ap length e ∙ simp length-append in
@@ -98,7 +98,7 @@ put-decimal-add-result-2 : (t : ℕ) → put-decimal-lts.Need-add-result-2 (
   put-decimal-below t,
   put-decimal.Post,
 ) (put-decimal-at t) put-decimal.Post
-put-decimal-add-result-2 t c = 
+put-decimal-add-result-2 t c =
     let s = c .before .before .before .before .before .before in
     let e = decimal-last (s .args .n) (omega arith) (omega (arith, s .fits .n)) in
     let l : length (decimal (s .args .n)) ≡ length (decimal (s .args .n / 10)) + 1 = ap length e ∙ simp length-append in
@@ -114,7 +114,7 @@ put-decimal-returns-2 : (t : ℕ) → put-decimal-lts.Need-returns-2 (
   put-decimal-below t,
   put-decimal.Post,
 ) (put-decimal-at t) put-decimal.Post
-put-decimal-returns-2 t c = 
+put-decimal-returns-2 t c =
     let s = c .before .before .before .before .before .before in
     let e = decimal-last (s .args .n) (omega arith) (omega (arith, s .fits .n)) in
     rw e (put-last _ _ _ _ _ _ (c .before .before .put-decimal .ensures))
