@@ -2,3 +2,4 @@ pub mod Decimals
 pub mod Puts
 pub mod Pieces
 pub mod Reading
+pub mod Letters

@@ -93,7 +93,7 @@ module _ (separator : ℕ) (line : List ℕ) (from : ℕ) where
 
 -- ---- a line's words
 
-words-here : (line : List ℕ) (at : ℕ) → at ≤ length line → wordsAt line at ≡ pieces space (drop at line)
+pub words-here : (line : List ℕ) (at : ℕ) → at ≤ length line → wordsAt line at ≡ pieces space (drop at line)
 unfolding wordsAt
 words-here line at h = rw (le-leb at (length line) h)
 
@@ -130,3 +130,22 @@ module _ (line : List ℕ) (at most : ℕ) (mosts : List ℕ) where
       → numbers (most ∷ mosts) (wordsAt line at) ≡ both found (numbers mosts (wordsAt line (end + 1)))
   unfolding numbers
   numbers-word end found w e = rw (w .words, e)
+
+pieces-some : (separator : ℕ) (bs : List ℕ) → (p : List ℕ) × (ps : List (List ℕ)) × (pieces separator bs ≡ p ∷ ps)
+unfolding pieces
+pieces-some separator [] = ([], [], refl)
+pieces-some separator (b ∷ bs) = go (b == separator) (pieces separator bs)
+  where
+    go : (t : Bool) (rest : List (List ℕ)) → (p : List ℕ) × (ps : List (List ℕ)) × ((if t then [] ∷ rest else prepend b rest) ≡ p ∷ ps)
+    go true rest = ([], rest, refl)
+    go false [] = (b ∷ [], [], refl)
+    go false (p ∷ ps) = (b ∷ p, ps, refl)
+
+-- a line ends where its numbers do
+pub numbers-over : (line : List ℕ) (at : ℕ) → at ≤ length line → numbers [] (wordsAt line at) ≡ none
+unfolding numbers
+numbers-over line at h = let w = pieces-some space (drop at line) in rw (words-here line at h, w .2)
+
+pub numbers-end : (line : List ℕ) (at : ℕ) → length line < at → numbers [] (wordsAt line at) ≡ some []
+unfolding numbers
+numbers-end line at h = rw (words-none line at h)

@@ -1,3 +1,4 @@
 -- What the contracts of the script program's lines cite, beside Script of the rules.
 pub mod Put
 pub mod Words
+pub mod Lines

@@ -1,11 +1,9 @@
 // The script program's lines (Script): bytes written at a place of a lent buffer.
+mod read;
 mod text;
 mod words;
 
+pub use read::Line;
+pub use read::read_line;
 pub use text::put_decimal;
 pub use text::put_text;
-pub use words::Numeral;
-pub use words::Taken;
-pub use words::number;
-pub use words::take_number;
-pub use words::word_end;

@@ -1,10 +1,11 @@
 // A line's words, which single spaces part, and the numbers among them.
 ghost use Prim.Native.Nat.{ℕ, _+_, _≤_};
 ghost use mathlib.Core.Path.{_≡_};
-ghost use mathlib.Core.List.{List, _∷_};
+ghost use mathlib.Core.List.{List, [], _∷_};
+ghost use mathlib.Core.Option.{some};
 ghost use lib.ListN.{length};
 ghost use lib.Seq.{slice};
-ghost use Rattle.rules.specs.Script.{number, numbers, u64};
+ghost use Rattle.rules.specs.Script.{number, numbers, both};
 ghost use Rattle.lines.specs.Words.{wordsAt, WordAt, option, IsDigit, taken};
 
 // What a word is as a number.
@@ -86,4 +87,18 @@ pub fn take_number(line: &[u8], at: usize, most: u64) -> Taken
         },
         Numeral::Not => Taken::Nothing,
     }
+}
+
+// The number at `at`, if there is a word there, it is one and it is the line's last.
+pub fn last_number(line: &[u8], at: usize, most: u64) -> Numeral
+    requires { ⌜ 9 ≤ most ⌝ }
+    ensures { λ r. ⌜ numbers (most ∷ []) (wordsAt (now (line .entry)) at) ≡ both (option r) (some []) ⌝ }
+{
+    let Taken::Number { value, next } = take_number(line, at, most) else {
+        return Numeral::Not;
+    };
+    if next <= line.len() {
+        return Numeral::Not;
+    }
+    Numeral::Is(value)
 }
