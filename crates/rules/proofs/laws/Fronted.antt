@@ -81,6 +81,14 @@ same-length (swap {r = r} {s = s} {h = h}) = simp length-append (omega arith)
 same-length (under {r = r} {h = h} {g = g} s) = length-append r (flat h) ∙ ap (λ (n : ℕ). length r + n) (same-length s) ∙ sym (length-append r (flat g))
 same-length (via s u) = same-length s ∙ same-length u
 
+-- as many runs
+pub same-runs : {h g : List (List Key)} → Same h g → length h ≡ length g
+same-runs same = refl
+same-runs (turn p k q) = refl
+same-runs swap = refl
+same-runs (under s) = ap suc (same-runs s)
+same-runs (via s u) = same-runs s ∙ same-runs u
+
 -- a key that no run holds
 pub runsBut-none : (k : Key) (rs : List (List Key)) → (In k (flat rs) → ⊥) → runsBut k rs ≡ rs
 unfolding runsBut

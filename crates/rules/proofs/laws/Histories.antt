@@ -4,6 +4,7 @@ pub mod Insert
 pub mod Union
 pub mod Remove
 pub mod Gone
+pub mod Drain
 pub mod Renumber
 pub mod Sorted
 pub mod Compress
