@@ -2,16 +2,27 @@
 use mathlib.Core.Path.{_≡_, refl, sym, ap, _∙_}
 use mathlib.Core.Logic.{_≢_, _⊎_, inl, inr}
 use mathlib.Core.List.{List, [], _∷_, _++_}
-use Prim.Native.Nat.{ℕ}
+use Prim.Native.Nat.{ℕ, suc, _+_}
+use native.Mathlib.Omega.{arith}
 use Rattle.rules.specs.declared.Key.{Key}
 use Rattle.rules.specs.Notation.{flat}
-use Rattle.rules.specs.History.{othersOf, runsBut}
-use Rattle.rules.proofs.laws.Lists.{All, In, Out, NoDup, all-map, all-at, all-of, all-parts, in-parts, nodup-parts, across, cycles-frame}
-use Rattle.rules.proofs.laws.Working.{View, Working, next-class}
+use Rattle.rules.specs.History.{History, frames, othersOf, runOf, runsBut, accepted}
+use Rattle.rules.proofs.laws.Lists.{out-by, All, In, Out, NoDup, all-map, all-at, all-of, all-parts, in-parts, nodup-parts, across, cycles-frame}
+use Rattle.rules.proofs.laws.Working.{View, view, Working, Frame, Ring, next-class}
 use Rattle.rules.proofs.laws.Keys.{out-not}
 use Rattle.rules.proofs.laws.Fronted.{fronted}
 use Rattle.rules.proofs.laws.Rep.{keyAt, nextKey, LiveKey, Rep, rep-same, held, key-at}
 use Rattle.rules.proofs.laws.Classes.{first-run, one-class, own-run}
+use lib.ListN.{length, length-append}
+use Rattle.rules.specs.Tables.{State}
+use Rattle.rules.specs.Slots.{raised}
+use Rattle.rules.specs.Calls.{removeShared}
+use Rattle.rules.proofs.laws.Safe.{working}
+use Rattle.rules.proofs.laws.Soundness.{ring-at}
+use Rattle.rules.proofs.laws.Wiped.{wipe-out, wipe-zero, wipe-in, thread-out}
+use Rattle.rules.proofs.laws.RemoveShared.{removeSharedV, ringRemoved, ringRemoved-view, removeShared-keeps}
+use Rattle.rules.proofs.laws.Fronted.{same-length}
+use Rattle.rules.proofs.laws.Good.{Good, key-fronted}
 
 -- the frames of the class `c` are freed, and the others keep generation and next
 pub record Gone (v v′ : View) (c : ℕ) : Type 0 where
@@ -67,3 +78,40 @@ rep-still v v′ g n h R = record {
   once = R .once;
   whole = λ s l. rw (key-at v v′ s (g s)) (R .whole s (rw (g s) at l));
 }
+
+-- Rules 8: a ring wiped whole
+ring-gone : (v : View) (c x : ℕ) (r : Ring (v .gen) (v .class) (v .next) c x (v .count c)) → Gone v (removeSharedV v c (x ∷ r .rest)) c
+unfolding removeSharedV
+ring-gone v c x r = record {
+  out = λ s l e. wipe-in xs (v .gen) s (r .whole s (record { live = l; mine = e }));
+  free = λ s e. wipe-zero xs (v .gen) s e;
+  g-o = λ s l n. wipe-out xs (v .gen) s (outside s n);
+  n-o = λ s l n. thread-out xs (v .head .elems .root) (v .next) s (outside s n);
+}
+  where
+    xs : List ℕ
+    xs = x ∷ r .rest
+
+    outside : (s : ℕ) → v .class s ≢ c → Out s xs
+    outside s n = out-by (Frame (v .gen) (v .class) c) s xs (λ f. n (f .mine)) (r .frames)
+
+-- state and history together
+module _ (st : State) (h : History) (G : Good st h) (k : Key) (l : LiveKey (view st) k) where
+  rings : Rep (view (ringRemoved st (k .slot))) (runsBut k (h .runs))
+  rings =
+      let W = working st (G .ready) in
+      let r = ring-at (view st) W (k .slot) (l .live) in
+      rw (ringRemoved-view st (G .ready) (k .slot) (l .live))
+      (rep-gone (view st) (removeSharedV (view st) (view st .class (k .slot)) (k .slot ∷ r .rest)) W k (ring-gone (view st) (view st .class (k .slot)) (k .slot) r) (h .runs) l (G .rings))
+
+  generation-raised : ringRemoved st (k .slot) .head .generation ≡ raised (st .head .generation)
+  unfolding removeSharedV
+  generation-raised = ap (λ (v : View). v .head .generation) (ringRemoved-view st (G .ready) (k .slot) (l .live))
+
+  pub good-removeShared : (values : List ℕ) → Good (ringRemoved st (k .slot)) (accepted h (removeShared k) values)
+  good-removeShared values = record {
+    ready = removeShared-keeps st (G .ready) (k .slot) (l .live);
+    rings = rings;
+    generation = generation-raised ∙ ap raised (G .generation);
+    counts = omega (arith, same-length (key-fronted st h G k l), length-append (runOf k (h .runs)) (flat (runsBut k (h .runs))), G .counts);
+  }
