@@ -20,6 +20,8 @@ pub mod Good
 pub mod Refused
 pub mod Follows
 pub mod Histories
+pub mod EveryCall
+pub mod DemandThree
 pub mod UnionFrame
 pub mod Search
 pub mod Steps

@@ -1,5 +1,6 @@
 -- What a ruling does to state and history together: refused, nothing; accepted, both go on.
 use mathlib.Core.Path.{_≡_, refl, sym, ap, _∙_, subst}
+use mathlib.Core.Logic.{_≢_}
 use mathlib.Core.Bool.{Bool, true, false}
 use mathlib.Core.List.{List, [], _∷_}
 use Prim.Native.Nat.{ℕ}
@@ -10,11 +11,13 @@ use Rattle.rules.specs.declared.Refusal.{Refusal}
 use Rattle.rules.specs.declared.Refusal.the-variants.{Shape, Unsound, Dead, SameClass, NoElement, NoShared, Short, Malformed}
 use Rattle.rules.specs.Notation.{if_then_else_}
 use Rattle.rules.specs.Tables.{State, found, LiveKey}
-use Rattle.rules.specs.Refusals.{Ruling, refuse, accept, outcome, whenLive, withLive}
+use Rattle.rules.specs.Refusals.{Ruling, refuse, accept, outcome, whenLive, withLive, withAllLive}
 use Rattle.rules.specs.Calls.{Call}
 use Rattle.rules.specs.History.{History, accepted, noted}
 use Rattle.rules.proofs.laws.Safe.{looked}
-use Rattle.rules.proofs.laws.Good.{Good}
+use Rattle.rules.proofs.laws.Lists.{All}
+use Rattle.rules.proofs.laws.Working.{view}
+use Rattle.rules.proofs.laws.Good.{Good, live-of}
 
 -- the call `c` that is ruled so leads from a good state and history to a good state and history
 pub data Follows (h : History) (c : Call) : Ruling → Type 0 where
@@ -44,6 +47,10 @@ module _ (P : Ruling → Type 0) where
       go : (x : Found) → found st k ≡ x → P (whenLive x rule)
       go (lookup.Live x) e = let q : x ≡ k .slot = looked st k x e .same in rw q (f (e ∙ ap lookup.Live q))
       go lookup.Dead e = n Dead
+
+  pub by-keys : ((r : Refusal) → P (refuse r)) → (st : State) (ks : List Key) (rule : List ℕ → Ruling) → ((xs : List ℕ) → All (λ x. view st .gen x ≢ 0) xs → P (rule xs)) → P (withAllLive st ks rule)
+  by-keys n st [] rule f = f [] tt
+  by-keys n st (k ∷ ks) rule f = by-key n st k (λ x. withAllLive st ks (λ xs. rule (x ∷ xs))) (λ l. by-keys n st ks (λ xs. rule (k .slot ∷ xs)) (λ xs a. f (k .slot ∷ xs) (live-of st k l .live, a)))
 
 -- the same of what leads to good states
 module _ (h : History) (c : Call) where

@@ -38,6 +38,11 @@ pub record Good (st : State) (h : History) : Type 0 where
 pub good-same : {st : State} {h : History} (rs : List (List Key)) → Same (h .runs) rs → Good st h → Good st (withRuns h rs)
 good-same {st} {h} rs s G = record { ready = G .ready; rings = rep-same (view st) s (G .rings); generation = G .generation; counts = ap (λ (n : ℕ). n + h .taken) (sym (same-length s)) ∙ G .counts }
 
+-- what is taken out, and the generation, told in another way
+pub good-told : {st : State} {rs : List (List Key)} {put taken taken′ generation generation′ : ℕ} → taken ≡ taken′ → generation ≡ generation′
+    → Good st (record { runs = rs; put = put; taken = taken; generation = generation }) → Good st (record { runs = rs; put = put; taken = taken′; generation = generation′ })
+good-told {st} {rs} {put} e f G = subst (λ (h : History). Good st h) (λ i. record { runs = rs; put = put; taken = e i; generation = f i }) G
+
 -- a live key, as the book says it and as the laws do
 module _ (st : State) where
   pub live-of : (k : Key) → Tables.LiveKey st k → LiveKey (view st) k

@@ -5,6 +5,9 @@ pub mod Union
 pub mod Remove
 pub mod Gone
 pub mod Drain
+pub mod Cleared
+pub mod Sets
 pub mod Renumber
 pub mod Sorted
 pub mod Compress
+pub mod Renamed

@@ -44,3 +44,10 @@ is-T false d t = absurd t
 pub is-told : {P : Type 0} (b : Bool) → Is P b → P → T b
 is-told true d p = tt
 is-told false d p = absurd (d p)
+
+-- and from what the test came to
+pub is-so : (P : Type 0) (b : Bool) → Is P b → b ≡ true → P
+is-so P b d e = subst (λ (t : Bool). Is P t) e d
+
+pub is-not : (P : Type 0) (b : Bool) → Is P b → b ≡ false → P → ⊥
+is-not P b d e = subst (λ (t : Bool). Is P t) e d

@@ -12,7 +12,6 @@ use Rattle.rules.specs.Tables.{nextOf, State, elemSide, isLive, sizeAt}
 use Rattle.rules.specs.Slots.{raised}
 use Rattle.rules.specs.Runs.{removed}
 use Rattle.rules.specs.Drains.{drained, lowest, allDrained}
-use Rattle.rules.specs.Calls.{drain}
 use Rattle.rules.specs.History.{History, frames, othersOf, runOf, runsBut, withRuns, takingOut, accepted}
 use Rattle.rules.proofs.laws.Lists.{All, In, Cycle}
 use Rattle.rules.proofs.laws.Steps.{steps-add}
@@ -23,13 +22,8 @@ use Rattle.rules.proofs.laws.Working.{view}
 use Rattle.rules.proofs.laws.Safe.{working}
 use Rattle.rules.proofs.laws.Fronted.{same-length, same-runs}
 use Rattle.rules.proofs.laws.Rep.{keyAt, nextKey, LiveKey, Rep}
-use Rattle.rules.proofs.laws.Good.{Good, good-same, key-fronted, size-from}
+use Rattle.rules.proofs.laws.Good.{Good, good-same, good-told, key-fronted, size-from}
 use Rattle.rules.proofs.laws.Histories.Remove.{good-first}
-
--- as many are taken out, told in another way
-told : {st : State} {rs : List (List Key)} {put taken taken′ generation generation′ : ℕ} → taken ≡ taken′ → generation ≡ generation′
-    → Good st (record { runs = rs; put = put; taken = taken; generation = generation }) → Good st (record { runs = rs; put = put; taken = taken′; generation = generation′ })
-told {st} {rs} {put} e f G = subst (λ (h : History). Good st h) (λ i. record { runs = rs; put = put; taken = e i; generation = f i }) G
 
 -- the run that stands first goes
 pub good-drained : (xs : List Key) (st : State) (h : History) → Good st h → (k : Key) (hs : List (List Key)) → h .runs ≡ (k ∷ xs) ∷ hs
@@ -40,7 +34,7 @@ good-drained (j ∷ ys) st h G k hs e =
     let after : nextOf (st .elems) (k .slot) ≡ j .slot = ap (λ (x : Key). x .slot) (subst (λ (rs : List (List Key)). All (Cycle (nextKey (view st))) rs) e (G .rings .rings) .0 .0) in
     let n = suc (length ys) in
     let r = good-drained ys (removed st (k .slot)) (takingOut h 1 1 ((j ∷ ys) ∷ hs)) (good-first st h G k (j ∷ ys) hs e) j hs refl in
-    subst (λ (x : ℕ). Good (drained n (removed st (k .slot)) x) (takingOut h (suc n) (suc n) hs)) (sym after) (told (omega arith) refl r)
+    subst (λ (x : ℕ). Good (drained n (removed st (k .slot)) x) (takingOut h (suc n) (suc n) hs)) (sym after) (good-told (omega arith) refl r)
 
 module _ (st : State) (h : History) (G : Good st h) where
   -- the whole run of a live key
@@ -79,7 +73,7 @@ good-all (suc n) st h G e =
     let m = length (runOf k (h .runs)) in
     let f = length (flat (runsBut k (h .runs))) in
     let z : frames h ≡ m + f = same-length s ∙ length-append (runOf k (h .runs)) (flat (runsBut k (h .runs))) in
-    told (omega (arith, z)) (sym (steps-add raised m f (h .generation)) ∙ ap (λ (i : ℕ). steps raised i (h .generation)) (sym z))
+    good-told (omega (arith, z)) (sym (steps-add raised m f (h .generation)) ∙ ap (λ (i : ℕ). steps raised i (h .generation)) (sym z))
     (good-all n (drained (sizeAt st (lowest st)) st (lowest st)) (takingOut h m m (runsBut k (h .runs))) (good-run st h G k l) (omega (arith, same-runs s)))
   where
     some : (s : ℕ) × (view st .gen s ≢ 0)

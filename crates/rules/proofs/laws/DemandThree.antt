@@ -1,0 +1,116 @@
+-- Demand 3, for every sequence of calls from fresh tables: the book's claim, proved.
+use mathlib.Core.Path.{_≡_, refl, sym, ap, _∙_, subst}
+use mathlib.Core.Logic.{_≢_}
+use mathlib.Core.Bool.{Bool, true, false, true≢false}
+use mathlib.Core.List.{List, [], _∷_}
+use Prim.Native.Nat.{ℕ, suc, _≤_, _<_, min}
+use native.Mathlib.Omega.{arith}
+use lib.ListN.{length, getD}
+use Rattle.rules.specs.declared.Key.{Key}
+use Rattle.rules.specs.declared.Refusal.{Refusal}
+use Rattle.rules.specs.declared.Refusal.the-variants.{Shape, Unsound, Dead, SameClass, NoElement, NoShared, Short, Malformed}
+use Rattle.rules.specs.Notation.{_==_, _<?_}
+use Rattle.rules.specs.Tables.{valueOf, classOf, State, sizeAt}
+use Rattle.rules.specs.Refusals.{Ruling, refuse, accept, Outcome, outcome, numberOf}
+use Rattle.rules.specs.Runs
+use Rattle.rules.specs.Calls.{Call, union, step, freshStep, AtDoor}
+use Rattle.rules.specs.History.{History, runOf, othersOf, noted, notedFresh}
+use Rattle.rules.specs.Demand.{After, start, fresh, call, Agrees, rewrites, Union, Demand3}
+use Rattle.rules.proofs.Door
+use Rattle.rules.proofs.Exactly.{exactly-1, exactly-2}
+use Rattle.rules.proofs.laws.Tests.{eq-is, le-is, is-so, is-not}
+use Rattle.rules.proofs.laws.Working.{view}
+use Rattle.rules.proofs.laws.Rep.{LiveKey}
+use Rattle.rules.proofs.laws.Good.{Good, live-of, run-from, size-from, agrees}
+use Rattle.rules.proofs.laws.Follows.{follows, by-test, by-key}
+use Rattle.rules.proofs.laws.EveryCall.{call-follows}
+use Rattle.rules.proofs.laws.UnionFrame.{third-frames, third-headers, rewrites-run}
+use Rattle.rules.proofs.laws.Histories.Cleared.{good-start, good-fresh}
+
+-- at the host's door a good state is met by the call's own rule
+at-door : {st : State} {h : History} → Good st h → (lent : List ℕ) (c : Call) (o : Outcome) → AtDoor st lent c o → o ≡ step st lent c
+at-door {st} G lent c o d = Door.passes st lent c o d (G .ready .shape) (G .ready .sound)
+
+pub good-call : {st : State} {h : History} → Good st h → (lent : List ℕ) (c : Call) (o : Outcome) → AtDoor st lent c o → Good (o .state) (noted h c (o .said))
+good-call {st} {h} G lent c o d = subst (λ (q : Outcome). Good (q .state) (noted h c (q .said))) (sym (at-door G lent c o d)) (follows st lent h c _ G (call-follows st lent h G c))
+
+-- whatever the calls were, the state is ready and holds the history
+pub after-good : {st : State} {h : History} → After st h → Good st h
+after-good (start st elems shared e) = good-start st elems shared e
+after-good (fresh {st = st} {h = h} a elems shared) = good-fresh st elems shared h (after-good a)
+after-good (call a lent c o d) = good-call (after-good a) lent c o d
+
+-- no call of such a sequence is refused 1 or 2
+passes : (st : State) (h : History) → Good st h → (lent : List ℕ) (c : Call) (o : Outcome) → AtDoor st lent c o → (o .said .number ≢ 1) × (o .said .number ≢ 2)
+passes st h G lent c o d = ((λ e. true≢false (sym (G .ready .shape) ∙ exactly-1 st lent c o d .0 e)), λ e. exactly-2 st lent c o d .0 e .1 (G .ready .sound))
+
+not-accepted : (r : Refusal) → numberOf r ≢ 0
+not-accepted Shape = omega arith
+not-accepted Unsound = omega arith
+not-accepted Dead = omega arith
+not-accepted SameClass = omega arith
+not-accepted NoElement = omega arith
+not-accepted NoShared = omega arith
+not-accepted Short = omega arith
+not-accepted Malformed = omega arith
+
+module _ (st : State) (h : History) (G : Good st h) (j k : Key) (lent : List ℕ) where
+  -- what is claimed of an accepted union
+  abbrev claimed : Ruling → Type 0
+  claimed r = outcome st lent r .said .number ≡ 0 → Union st h j k (outcome st lent r)
+
+  refused : (r : Refusal) → claimed (refuse r)
+  refused r e = absurd (not-accepted r e)
+
+  -- the run of `y` goes into that of `x`, and is the smaller
+  module _ (x y : Key) (lx : LiveKey (view st) x) (ly : LiveKey (view st) y) (differ : classOf (st .elems) (x .slot) ≢ classOf (st .elems) (y .slot)) where
+    abbrev after : State
+    after = Runs.joined st (x .slot) (y .slot)
+
+    gone : length (rewrites st after) ≡ length (runOf y (h .runs))
+    gone = rewrites-run st (G .ready) (x .slot) (lx .live) y (othersOf y (h .runs)) (run-from st h G y ly) differ
+
+    told : sizeAt st (y .slot) ≡ length (rewrites st after)
+    told = sym (gone ∙ size-from st h G y ly)
+
+  first : LiveKey (view st) j → LiveKey (view st) k → classOf (st .elems) (j .slot) ≢ classOf (st .elems) (k .slot) → sizeAt st (k .slot) ≤ sizeAt st (j .slot) → claimed (Runs.keeping st (j .slot) (k .slot) j)
+  unfolding Runs.keeping
+  first lj lk differ l e = record {
+    smaller = gone j k lj lk differ ∙ omega (arith, size-from st h G j lj, size-from st h G k lk);
+    answered = told j k lj lk differ;
+    frames = λ s f m nj nk. third-frames st (G .ready) (j .slot) (k .slot) (lj .live) (lk .live) s f m nj nk;
+    headers = λ c f m nj nk. third-headers st (G .ready) (j .slot) (k .slot) (lj .live) (lk .live) c f m nj nk;
+  }
+
+  second : LiveKey (view st) j → LiveKey (view st) k → classOf (st .elems) (j .slot) ≢ classOf (st .elems) (k .slot) → sizeAt st (j .slot) < sizeAt st (k .slot) → claimed (Runs.keeping st (k .slot) (j .slot) k)
+  unfolding Runs.keeping
+  second lj lk differ l e = record {
+    smaller = gone k j lk lj (λ q. differ (sym q)) ∙ omega (arith, size-from st h G j lj, size-from st h G k lk);
+    answered = told k j lk lj (λ q. differ (sym q));
+    frames = λ s f m nj nk. third-frames st (G .ready) (k .slot) (j .slot) (lk .live) (lj .live) s f m nk nj;
+    headers = λ c f m nj nk. third-headers st (G .ready) (k .slot) (j .slot) (lk .live) (lj .live) c f m nk nj;
+  }
+
+  pub union-claimed : claimed (Runs.union st j k)
+  unfolding Runs.union
+  union-claimed =
+      by-key claimed refused st j _ (λ ej. by-key claimed refused st k _ (λ ek.
+      let lj = live-of st j ej in
+      let lk = live-of st k ek in
+      let cj = classOf (st .elems) (j .slot) in
+      let ck = classOf (st .elems) (k .slot) in
+      by-test claimed (cj == ck) _ _ (λ e. refused SameClass) (λ e.
+      let n : cj ≢ ck = is-not (cj ≡ ck) (cj == ck) (eq-is cj ck) e in
+      let less = le-is (suc (sizeAt st (j .slot))) (sizeAt st (k .slot)) in
+      by-test claimed (sizeAt st (j .slot) <? sizeAt st (k .slot)) _ _
+      (λ f. second lj lk n (is-so (suc (sizeAt st (j .slot)) ≤ sizeAt st (k .slot)) (sizeAt st (j .slot) <? sizeAt st (k .slot)) less f))
+      (λ f. first lj lk n (let m = is-not (suc (sizeAt st (j .slot)) ≤ sizeAt st (k .slot)) (sizeAt st (j .slot) <? sizeAt st (k .slot)) less f in omega arith)))))
+
+pub demand-3 : Demand3
+demand-3 = record {
+  passes = λ st h a. passes st h (after-good a);
+  rings = λ st h a. agrees st h (after-good a);
+  unions = λ st h a lent j k o d e.
+      let q = at-door (after-good a) lent (union j k) o d in
+      subst (λ (p : Outcome). Union st h j k p) (sym q) (union-claimed st h (after-good a) j k lent (sym (ap (λ (p : Outcome). p .said .number) q) ∙ e));
+}
