@@ -1,21 +1,21 @@
 -- Demand 3, for every sequence of calls from fresh tables: the book's claim, proved.
-use mathlib.Core.Path.{_≡_, refl, sym, ap, _∙_, subst}
+use mathlib.Core.Path.{_≡_, sym, ap, _∙_, subst}
 use mathlib.Core.Logic.{_≢_}
-use mathlib.Core.Bool.{Bool, true, false, true≢false}
-use mathlib.Core.List.{List, [], _∷_}
-use Prim.Native.Nat.{ℕ, suc, _≤_, _<_, min}
+use mathlib.Core.Bool.{true, true≢false}
+use mathlib.Core.List.{List}
+use Prim.Native.Nat.{ℕ, suc, _≤_, _<_}
 use native.Mathlib.Omega.{arith}
-use lib.ListN.{length, getD}
+use lib.ListN.{length}
 use Rattle.rules.specs.declared.Key.{Key}
 use Rattle.rules.specs.declared.Refusal.{Refusal}
 use Rattle.rules.specs.declared.Refusal.the-variants.{Shape, Unsound, Dead, SameClass, NoElement, NoShared, Short, Malformed}
 use Rattle.rules.specs.Notation.{_==_, _<?_}
-use Rattle.rules.specs.Tables.{valueOf, classOf, State, sizeAt}
-use Rattle.rules.specs.Refusals.{Ruling, refuse, accept, Outcome, outcome, numberOf}
+use Rattle.rules.specs.Tables.{classOf, State, sizeAt}
+use Rattle.rules.specs.Refusals.{Ruling, refuse, Outcome, outcome, numberOf, door}
 use Rattle.rules.specs.Runs
-use Rattle.rules.specs.Calls.{Call, union, step, freshStep, AtDoor}
-use Rattle.rules.specs.History.{History, runOf, othersOf, noted, notedFresh}
-use Rattle.rules.specs.Demand.{After, start, fresh, call, Agrees, rewrites, Union, Demand3}
+use Rattle.rules.specs.Calls.{Call, union, step, AtDoor}
+use Rattle.rules.specs.History.{History, runOf, othersOf, noted}
+use Rattle.rules.specs.Demand.{After, start, fresh, call, rewrites, Union, Demand3}
 use Rattle.rules.proofs.Door
 use Rattle.rules.proofs.Exactly.{exactly-1, exactly-2}
 use Rattle.rules.proofs.laws.Tests.{eq-is, le-is, is-so, is-not}
@@ -23,9 +23,9 @@ use Rattle.rules.proofs.laws.Working.{view}
 use Rattle.rules.proofs.laws.Rep.{LiveKey}
 use Rattle.rules.proofs.laws.Good.{Good, live-of, run-from, size-from, agrees}
 use Rattle.rules.proofs.laws.Follows.{follows, by-test, by-key}
+use Rattle.rules.proofs.laws.Histories.Cleared.{good-start, good-fresh}
 use Rattle.rules.proofs.laws.EveryCall.{call-follows}
 use Rattle.rules.proofs.laws.UnionFrame.{third-frames, third-headers, rewrites-run}
-use Rattle.rules.proofs.laws.Histories.Cleared.{good-start, good-fresh}
 
 -- at the host's door a good state is met by the call's own rule
 at-door : {st : State} {h : History} → Good st h → (lent : List ℕ) (c : Call) (o : Outcome) → AtDoor st lent c o → o ≡ step st lent c
@@ -39,6 +39,11 @@ pub after-good : {st : State} {h : History} → After st h → Good st h
 after-good (start st elems shared e) = good-start st elems shared e
 after-good (fresh {st = st} {h = h} a elems shared) = good-fresh st elems shared h (after-good a)
 after-good (call a lent c o d) = good-call (after-good a) lent c o d
+
+-- and any call can be the next one, with its own rule's outcome
+pub goes-on : {st : State} {h : History} → After st h → (lent : List ℕ) (c : Call) → AtDoor st lent c (step st lent c)
+unfolding door
+goes-on a lent c = let Y = after-good a .ready in record { sound = true; decided = Y .sound; same = rw (Y .shape) }
 
 -- no call of such a sequence is refused 1 or 2
 passes : (st : State) (h : History) → Good st h → (lent : List ℕ) (c : Call) (o : Outcome) → AtDoor st lent c o → (o .said .number ≢ 1) × (o .said .number ≢ 2)

@@ -1,15 +1,13 @@
 -- Every call of the base leads from a good state and history to a good state and history.
-use mathlib.Core.Path.{_≡_, refl, sym, ap, _∙_}
+use mathlib.Core.Path.{_≡_}
 use mathlib.Core.Logic.{_≢_}
-use mathlib.Core.Bool.{Bool, true, false}
-use mathlib.Core.List.{List, [], _∷_, map}
+use mathlib.Core.List.{List, [], map}
 use Prim.Native.Nat.{ℕ}
 use Rattle.rules.specs.declared.Key.{Key}
 use Rattle.rules.specs.Notation.{_==_, _<?_}
 use Rattle.rules.specs.Tables.{frameWidth, classOf, State, sizeAt}
-use Rattle.rules.specs.Refusals.{refuse, accept}
-use Rattle.rules.specs.Slots.{isFull}
 use Rattle.rules.specs.Reads
+use Rattle.rules.specs.Slots.{isFull}
 use Rattle.rules.specs.Runs
 use Rattle.rules.specs.Drains
 use Rattle.rules.specs.Drains.{isShort, keyWidth, recordWidth}
@@ -18,7 +16,7 @@ use Rattle.rules.specs.Exchange.{allDiffer}
 use Rattle.rules.specs.Compress
 use Rattle.rules.specs.Calls.{Call, lenSurject, inSameSurject, getElement, getShared, setElement, setShared, check, newRun, insert, union, remove, removeShared, list, drain, drainAll, clear, exchange, compress, ruling}
 use Rattle.rules.specs.History.{History}
-use Rattle.rules.proofs.laws.Lists.{All, all-map, all-image}
+use Rattle.rules.proofs.laws.Lists.{all-map, all-image}
 use Rattle.rules.proofs.laws.Tests.{eq-is, is-not}
 use Rattle.rules.proofs.laws.Working.{view}
 use Rattle.rules.proofs.laws.Safe.{working}

@@ -1,5 +1,5 @@
 -- What a ruling does to state and history together: refused, nothing; accepted, both go on.
-use mathlib.Core.Path.{_≡_, refl, sym, ap, _∙_, subst}
+use mathlib.Core.Path.{_≡_, refl, ap, _∙_}
 use mathlib.Core.Logic.{_≢_}
 use mathlib.Core.Bool.{Bool, true, false}
 use mathlib.Core.List.{List, [], _∷_}
@@ -14,9 +14,9 @@ use Rattle.rules.specs.Tables.{State, found, LiveKey}
 use Rattle.rules.specs.Refusals.{Ruling, refuse, accept, outcome, whenLive, withLive, withAllLive}
 use Rattle.rules.specs.Calls.{Call}
 use Rattle.rules.specs.History.{History, accepted, noted}
-use Rattle.rules.proofs.laws.Safe.{looked}
 use Rattle.rules.proofs.laws.Lists.{All}
 use Rattle.rules.proofs.laws.Working.{view}
+use Rattle.rules.proofs.laws.Safe.{looked}
 use Rattle.rules.proofs.laws.Good.{Good, live-of}
 
 -- the call `c` that is ruled so leads from a good state and history to a good state and history

@@ -7,11 +7,11 @@ use Prim.Native.Nat.{ℕ, suc, _+_}
 use native.Mathlib.Omega.{arith}
 use lib.ListN.{length, length-append}
 use Rattle.rules.specs.declared.Key.{Key}
-use Rattle.rules.specs.Notation.{if_then_else_, flat, keep}
+use Rattle.rules.specs.Notation.{if_then_else_, flat}
 use Rattle.rules.specs.Calls.{Is}
 use Rattle.rules.specs.History.{before, after, holds, othersOf, runOf, runsBut}
 use Rattle.rules.proofs.laws.Lists.{All, In, Out, NoDup, all-map, all-at, all-of, in-left, in-right, in-parts, in-swap, nodup-parts, nodup-append, nodup-swap}
-use Rattle.rules.proofs.laws.Keys.{holds-is, cut-at, out-of, out-not}
+use Rattle.rules.proofs.laws.Keys.{holds-is, cut-at, out-not}
 
 pub data Same : List (List Key) → List (List Key) → Type 0 where
   same : {h : List (List Key)} → Same h h

@@ -1,24 +1,24 @@
 -- Shape, soundness and the history at once; from it, what demand 3 claims of the tables.
 use mathlib.Core.Path.{_≡_, refl, sym, ap, _∙_, subst}
-use mathlib.Core.List.{List, [], _∷_, _++_, map}
-use Prim.Native.Nat.{ℕ, suc, _+_}
+use mathlib.Core.List.{List, _∷_}
+use Prim.Native.Nat.{ℕ, _+_}
 use native.Mathlib.Omega.{arith}
 use lib.ListN.{length}
 use Rattle.rules.specs.declared.Key.{Key}
 use Rattle.rules.specs.declared.Found.the-variants as lookup
-use Rattle.rules.specs.Notation.{steps, along, sum, upTo, flat}
+use Rattle.rules.specs.Notation.{steps, along, flat}
 use Rattle.rules.specs.Tables
-use Rattle.rules.specs.Tables.{countOf, State, found, sharedSide, sizeAt}
+use Rattle.rules.specs.Tables.{State, sharedSide, sizeAt}
 use Rattle.rules.specs.Sound.{Header}
 use Rattle.rules.specs.Calls.{Ready}
 use Rattle.rules.specs.History.{History, frames, withRuns, runOf, othersOf, runsBut}
 use Rattle.rules.specs.Demand
 use Rattle.rules.specs.Demand.{headerOf, Agrees}
-use Rattle.rules.proofs.laws.Lists.{All, In, all-at}
+use Rattle.rules.proofs.laws.Lists.{In, all-at}
 use Rattle.rules.proofs.laws.Steps.{walk-along, walk-end}
 use Rattle.rules.proofs.laws.Pools.{live-in}
-use Rattle.rules.proofs.laws.Sides
 use Rattle.rules.proofs.laws.Working.{view, Working}
+use Rattle.rules.proofs.laws.Sides
 use Rattle.rules.proofs.laws.Safe.{working, looked, found-live}
 use Rattle.rules.proofs.laws.Keys.{in-of, in-to, once-to}
 use Rattle.rules.proofs.laws.Fronted.{Same, same-length, fronted}

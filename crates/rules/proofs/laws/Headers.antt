@@ -1,18 +1,18 @@
 -- The headers of a history's runs: each its own, all of them, and their counts sum to the frames.
 use mathlib.Core.Path.{_≡_, refl, sym, ap, _∙_}
 use mathlib.Core.Logic.{_≢_, _⊎_, inl, inr}
-use mathlib.Core.List.{List, [], _∷_, _++_, map}
-use Prim.Native.Nat.{ℕ, suc, _+_, _≤_, _<_}
+use mathlib.Core.List.{List, [], _∷_, map}
+use Prim.Native.Nat.{ℕ, suc, _≤_, _<_}
 use native.Mathlib.Omega.{arith}
 use lib.ListN.{length, length-append}
 use Rattle.rules.specs.declared.Key.{Key}
 use Rattle.rules.specs.Notation.{sum, upTo, flat}
-use Rattle.rules.proofs.laws.Lists.{All, In, Out, NoDup, all-at, all-of, in-left, in-right, in-parts, nodup-parts}
+use Rattle.rules.proofs.laws.Lists.{All, In, Out, NoDup, all-at, all-of, in-right, in-parts, nodup-parts}
+use Rattle.rules.proofs.laws.Sums.{sum-same, upTo-in, upTo-once}
 use Rattle.rules.proofs.laws.Pools.{live-in}
 use Rattle.rules.proofs.laws.Count.{exact}
 use Rattle.rules.proofs.laws.Working.{View, Working}
 use Rattle.rules.proofs.laws.Keys.{out-not}
-use Rattle.rules.proofs.laws.Sums.{sum-same, upTo-in, upTo-once}
 use Rattle.rules.proofs.laws.Rep.{keyAt, LiveKey, Rep}
 use Rattle.rules.proofs.laws.Classes.{Run, runs-of, run-size, one-class, own-run}
 

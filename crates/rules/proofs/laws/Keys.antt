@@ -1,6 +1,6 @@
 -- Keys: told apart by both numbers; membership and none twice, as demand 3 says them and as the laws of lists do.
 use mathlib.Core.Path.{_≡_, refl, ap}
-use mathlib.Core.Logic.{_≢_, _⊎_, inl, inr}
+use mathlib.Core.Logic.{_≢_, inl, inr}
 use mathlib.Core.Bool.{Bool, true, false}
 use mathlib.Core.List.{List, [], _∷_, _++_}
 use Rattle.rules.specs.declared.Key.{Key}
@@ -8,7 +8,7 @@ use Rattle.rules.specs.Notation.{if_then_else_, _==_}
 use Rattle.rules.specs.Calls.{Is}
 use Rattle.rules.specs.History.{sameKey, before, after, holds}
 use Rattle.rules.specs.Demand
-use Rattle.rules.proofs.laws.Lists.{All, In, Out, NoDup, all-of, all-at}
+use Rattle.rules.proofs.laws.Lists.{In, Out, NoDup, all-of, all-at}
 use Rattle.rules.proofs.laws.Tests.{eq-is, both-is}
 
 pub key-path : (j k : Key) → j .slot ≡ k .slot → j .generation ≡ k .generation → j ≡ k

@@ -1,27 +1,26 @@
 -- Union's frame theorem: what it rewrites, how often, and that no third run is touched.
 use mathlib.Core.Path.{_≡_, refl, sym, ap, _∙_}
-use mathlib.Core.Logic.{_≢_, _⊎_, inl, inr}
-use mathlib.Core.Bool.{Bool, true, false, not}
-use mathlib.Core.List.{List, [], _∷_, map}
-use Prim.Native.Nat.{ℕ, zero, suc, _+_, _≤_, _<_}
+use mathlib.Core.Logic.{_≢_}
+use mathlib.Core.Bool.{Bool, not}
+use mathlib.Core.List.{List, _∷_, map}
+use Prim.Native.Nat.{ℕ, zero, suc, _<_}
 use native.Mathlib.Omega.{arith}
 use native.Mathlib.Decide.{ℕ-discrete}
-use lib.Dec.{T}
 use lib.ListN.{length, length-map}
 use Rattle.rules.specs.declared.Key.{Key}
-use Rattle.rules.specs.Notation.{_==_, upTo, keep}
+use Rattle.rules.specs.Notation.{_==_, upTo}
 use Rattle.rules.specs.Tables.{frameWidth, headerWidth, cell, classOf, State}
 use Rattle.rules.specs.Runs.{joined}
 use Rattle.rules.specs.Calls.{Ready}
 use Rattle.rules.specs.Demand.{rewrites}
-use Rattle.rules.proofs.laws.Lists.{All, In, NoDup, all-at, in-map, in-image, nodup-image}
 use Rattle.rules.proofs.laws.Columns.{upd-same, upd-other}
-use Rattle.rules.proofs.laws.Pools.{live-in}
-use Rattle.rules.proofs.laws.Working.{View, view, Working, next-class}
-use Rattle.rules.proofs.laws.Safe.{working}
-use Rattle.rules.proofs.laws.Links.{live-ne}
+use Rattle.rules.proofs.laws.Lists.{In, all-at, in-map, in-image, nodup-image}
 use Rattle.rules.proofs.laws.Tests.{eq-is, not-is, is-T, is-told}
 use Rattle.rules.proofs.laws.Sums.{length-same, keep-in, keep-of, keep-once, upTo-in, upTo-once}
+use Rattle.rules.proofs.laws.Pools.{live-in}
+use Rattle.rules.proofs.laws.Working.{View, view, Working, next-class}
+use Rattle.rules.proofs.laws.Links.{live-ne}
+use Rattle.rules.proofs.laws.Safe.{working}
 use Rattle.rules.proofs.laws.Union.{recolour, joinedV, joined-view}
 use Rattle.rules.proofs.laws.Rep.{keyAt, LiveKey, slots-apart}
 use Rattle.rules.proofs.laws.Classes.{slot, Run, one-class, own-run}

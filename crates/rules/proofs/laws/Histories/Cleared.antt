@@ -1,10 +1,9 @@
 -- Fresh, clear and drain all leave empty tables and a history of no runs (Rules 2, 11 and 12).
-use mathlib.Core.Path.{_≡_, refl, sym, ap, _∙_}
-use mathlib.Core.Bool.{Bool, true, false, true≢false}
+use mathlib.Core.Path.{_≡_, refl, sym, ap}
+use mathlib.Core.Bool.{Bool, true, false}
 use mathlib.Core.List.{List, []}
-use Prim.Native.Nat.{ℕ, suc, _+_, _*_}
+use Prim.Native.Nat.{ℕ, _+_, _*_}
 use native.Mathlib.Omega.{arith}
-use lib.ListN.{length}
 use Rattle.rules.specs.declared.Refusal.the-variants.{Shape}
 use Rattle.rules.specs.Notation.{if_then_else_}
 use Rattle.rules.specs.Tables.{frameWidth, State}
@@ -14,11 +13,11 @@ use Rattle.rules.specs.Slots.{empty, fresh, raised}
 use Rattle.rules.specs.Drains.{cleared, allDrained}
 use Rattle.rules.specs.Calls.{Ready, clear, drainAll, freshStep}
 use Rattle.rules.specs.History.{History, frames, takingOut, accepted, notedFresh, nothing}
+use Rattle.rules.proofs.laws.Columns.{cell-zeros}
 use Rattle.rules.proofs.laws.Steps.{steps-suc}
 use Rattle.rules.proofs.laws.Working.{view}
 use Rattle.rules.proofs.laws.Safe.{working}
 use Rattle.rules.proofs.laws.Empty.{clear-keeps, fresh-keeps}
-use Rattle.rules.proofs.laws.Columns.{cell-zeros}
 use Rattle.rules.proofs.laws.Headers.{live-runs}
 use Rattle.rules.proofs.laws.Good.{Good, good-told}
 use Rattle.rules.proofs.laws.Histories.Gone.{rep-none}

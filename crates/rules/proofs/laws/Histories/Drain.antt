@@ -1,10 +1,9 @@
 -- Drains step the history: a run goes frame by frame, and all runs go run by run (Rules 10 and 11).
 use mathlib.Core.Path.{_≡_, refl, sym, ap, _∙_, subst}
-use mathlib.Core.Logic.{_≢_, _⊎_, inl, inr}
-use mathlib.Core.List.{List, [], _∷_, _++_}
+use mathlib.Core.Logic.{_≢_, inl}
+use mathlib.Core.List.{List, [], _∷_}
 use Prim.Native.Nat.{ℕ, zero, suc, _+_}
 use native.Mathlib.Omega.{arith}
-use lib.Dec.{T}
 use lib.ListN.{length, getD, length-append}
 use Rattle.rules.specs.declared.Key.{Key}
 use Rattle.rules.specs.Notation.{steps, upTo, flat, keep}
@@ -12,13 +11,13 @@ use Rattle.rules.specs.Tables.{nextOf, State, elemSide, isLive, sizeAt}
 use Rattle.rules.specs.Slots.{raised}
 use Rattle.rules.specs.Runs.{removed}
 use Rattle.rules.specs.Drains.{drained, lowest, allDrained}
-use Rattle.rules.specs.History.{History, frames, othersOf, runOf, runsBut, withRuns, takingOut, accepted}
+use Rattle.rules.specs.History.{History, frames, othersOf, runOf, runsBut, withRuns, takingOut}
 use Rattle.rules.proofs.laws.Lists.{All, In, Cycle}
 use Rattle.rules.proofs.laws.Steps.{steps-add}
-use Rattle.rules.proofs.laws.Pools.{live-in}
-use Rattle.rules.proofs.laws.Sides
 use Rattle.rules.proofs.laws.Sums.{keep-in, keep-of, upTo-in}
+use Rattle.rules.proofs.laws.Pools.{live-in}
 use Rattle.rules.proofs.laws.Working.{view}
+use Rattle.rules.proofs.laws.Sides
 use Rattle.rules.proofs.laws.Safe.{working}
 use Rattle.rules.proofs.laws.Fronted.{same-length, same-runs}
 use Rattle.rules.proofs.laws.Rep.{keyAt, nextKey, LiveKey, Rep}

@@ -1,27 +1,27 @@
 -- A whole run goes, or all of them (Rules 8, 10, 11 and 12); and where no link changes, nothing does.
-use mathlib.Core.Path.{_≡_, refl, sym, ap, _∙_}
+use mathlib.Core.Path.{_≡_, sym, ap, _∙_}
 use mathlib.Core.Logic.{_≢_, _⊎_, inl, inr}
-use mathlib.Core.List.{List, [], _∷_, _++_}
-use Prim.Native.Nat.{ℕ, suc, _+_}
+use mathlib.Core.List.{List, [], _∷_}
+use Prim.Native.Nat.{ℕ}
 use native.Mathlib.Omega.{arith}
+use lib.ListN.{length-append}
 use Rattle.rules.specs.declared.Key.{Key}
 use Rattle.rules.specs.Notation.{flat}
-use Rattle.rules.specs.History.{History, frames, othersOf, runOf, runsBut, accepted}
-use Rattle.rules.proofs.laws.Lists.{out-by, All, In, Out, NoDup, all-map, all-at, all-of, all-parts, in-parts, nodup-parts, across, cycles-frame}
-use Rattle.rules.proofs.laws.Working.{View, view, Working, Frame, Ring, next-class}
-use Rattle.rules.proofs.laws.Keys.{out-not}
-use Rattle.rules.proofs.laws.Fronted.{fronted}
-use Rattle.rules.proofs.laws.Rep.{keyAt, nextKey, LiveKey, Rep, rep-same, held, key-at}
-use Rattle.rules.proofs.laws.Classes.{first-run, one-class, own-run}
-use lib.ListN.{length, length-append}
 use Rattle.rules.specs.Tables.{State}
 use Rattle.rules.specs.Slots.{raised}
 use Rattle.rules.specs.Calls.{removeShared}
-use Rattle.rules.proofs.laws.Safe.{working}
+use Rattle.rules.specs.History.{History, frames, othersOf, runOf, runsBut, accepted}
+use Rattle.rules.proofs.laws.Lists.{out-by, All, In, Out, all-map, all-at, all-of, all-parts, in-parts, nodup-parts, across, cycles-frame}
+use Rattle.rules.proofs.laws.Working.{View, view, Working, Frame, Ring, next-class}
 use Rattle.rules.proofs.laws.Soundness.{ring-at}
+use Rattle.rules.proofs.laws.Safe.{working}
 use Rattle.rules.proofs.laws.Wiped.{wipe-out, wipe-zero, wipe-in, thread-out}
 use Rattle.rules.proofs.laws.RemoveShared.{removeSharedV, ringRemoved, ringRemoved-view, removeShared-keeps}
+use Rattle.rules.proofs.laws.Keys.{out-not}
+use Rattle.rules.proofs.laws.Fronted.{fronted}
 use Rattle.rules.proofs.laws.Fronted.{same-length}
+use Rattle.rules.proofs.laws.Rep.{keyAt, nextKey, LiveKey, Rep, rep-same, held, key-at}
+use Rattle.rules.proofs.laws.Classes.{first-run, one-class, own-run}
 use Rattle.rules.proofs.laws.Good.{Good, key-fronted}
 
 -- the frames of the class `c` are freed, and the others keep generation and next

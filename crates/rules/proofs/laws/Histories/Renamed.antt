@@ -1,7 +1,7 @@
 -- Compression leads from good states to good states: the runs are written anew, and none of their frames is lost (Rules 14).
 use mathlib.Core.Path.{_≡_, refl, subst}
 use mathlib.Core.Bool.{Bool}
-use mathlib.Core.List.{List, [], _∷_, _++_, map, foldr}
+use mathlib.Core.List.{List, [], _∷_, map, foldr}
 use Prim.Native.Nat.{ℕ, suc, _+_}
 use native.Mathlib.Omega.{arith}
 use lib.ListN.{length, length-append, length-map}
