@@ -10,7 +10,8 @@ use lib.ListN.{length, length-append}
 use Rattle.marks.specs.Marks.{marked, Added}
 use Rattle.rules.specs.Tables.{generationOf, classOf, nextOf, countOf, State}
 use Rattle.rules.proofs.laws.Lists.{All, In, Out, NoDup, all-at, all-of, in-parts, in-left, in-right, nodup-append}
-use Rattle.rules.proofs.laws.Chains.{lives-le, lives-free, lives-live, fewer}
+use Rattle.rules.proofs.laws.Pools.{lives-free, lives-live}
+use Rattle.rules.proofs.laws.Count.{lives-le, fewer}
 use Rattle.rules.proofs.laws.Rounds.{Within, Fit, Round, went, went-once}
 use Rattle.sound.specs.Parts.{FreeOk, FrameAt, FirstAt, Run, frames, classes, slots, RunOk, Scan}
 use Rattle.sound.proofs.Ask.{differ}

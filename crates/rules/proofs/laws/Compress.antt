@@ -1,21 +1,21 @@
 -- Compression (Rules 14), for any order that lists the frames and any that lists the headers: its columns, that it renumbers, and that the working soundness stays.
 use mathlib.Core.Path.{_≡_, refl, sym, ap, _∙_}
 use mathlib.Core.Logic.{_≢_}
-use mathlib.Core.List.{List, [], _∷_, map}
-use Prim.Native.Nat.{ℕ, zero, suc, _+_, _*_, _-_, _≤_, _<_}
+use mathlib.Core.List.{List, []}
+use Prim.Native.Nat.{ℕ, zero, suc, _*_, _-_, _≤_, _<_}
 use native.Mathlib.Omega.{arith}
 use mathlib.Core.Bool.{Bool, true, false}
-use native.Mathlib.Decide.{ℕ-discrete}
 use lib.ListN.{length, getD}
 use Rattle.rules.specs.declared.Pool.{Pool}
 use Rattle.rules.specs.Tables.{lastGeneration, cell, frameWidth, headerWidth, State, withPools, withGeneration}
-use Rattle.rules.specs.Notation.{if_then_else_, _==_}
+use Rattle.rules.specs.Notation.{if_then_else_}
 use Rattle.rules.specs.Slots.{raised}
 use Rattle.rules.specs.Calls.{Ready}
 use Rattle.rules.specs.Compress.{canonicalFrames, canonicalClasses, placeOf, packed, movedFrame, movedHeader, renumbered}
-use Rattle.rules.proofs.laws.Lists.{All, all-at, all-map}
-use Rattle.rules.proofs.laws.Pools.{Pooled, lives, sign, sign-one, live-in, if-eq, if-ne}
-use Rattle.rules.proofs.laws.Count.{exact}
+use Rattle.rules.proofs.laws.Lists.{all-at, all-map}
+use Rattle.rules.proofs.laws.Pools.{Pooled, lives, sign, sign-one, live-in}
+use Rattle.rules.proofs.laws.Count.{exact, lives-le}
+use Rattle.rules.proofs.laws.Freed.{raised-least, raised-most}
 use Rattle.rules.proofs.laws.Working.{View, view, view-path, Working}
 use Rattle.rules.proofs.laws.Places.{place-in, in-at, place-at, upto, upto-in, upto-out, upto-none, upto-live, upto-zero, upto-le, cell-padded, length-padded}
 use Rattle.rules.proofs.laws.Renumber.{Renaming, Renumbered, renumbered-links, renumbered-class-live, renumbered-ring}
@@ -28,14 +28,6 @@ lives-upto n f h zero l = refl
 lives-upto n f h (suc k) l =
     let e : upto n f (suc k) ≡ f (suc k) = upto-in n f (suc k) (omega arith) l in
     omega (arith, lives-upto n f h k (omega arith), ap sign e, sign-one (f (suc k)) (h (suc k) (omega arith) l))
-
-pub lives-le : (g : ℕ → ℕ) (k : ℕ) → lives g k ≤ k
-lives-le g zero = omega arith
-lives-le g (suc k) = omega (arith, lives-le g k, sign-le (g (suc k)))
-  where
-    sign-le : (n : ℕ) → sign n ≤ 1
-    sign-le zero = omega arith
-    sign-le (suc n) = omega arith
 
 -- a list of the live slots is as long as the head says
 pub listed-live : {p : Pool} {g n : ℕ → ℕ} → Pooled p g n → (xs : List ℕ) → Listed g xs → length xs ≡ p .live
@@ -151,17 +143,9 @@ generationAfter reset g = if reset then 1 else raised g
 abbrev pub compressed : State → Bool → State
 compressed st reset = renumbered st (canonicalFrames st) (canonicalClasses st) (generationAfter reset (st .head .generation))
 
-raised-in : (g : ℕ) → 1 ≤ g → g ≤ lastGeneration → (1 ≤ raised g) × (raised g ≤ lastGeneration)
-unfolding raised
-raised-in g lo hi = go (ℕ-discrete g lastGeneration)
-  where
-    go : Dec (g ≡ lastGeneration) → (1 ≤ (if g == lastGeneration then 1 else g + 1)) × ((if g == lastGeneration then 1 else g + 1) ≤ lastGeneration)
-    go (yes e) = rw (if-eq g lastGeneration 1 (g + 1) e) (omega arith, omega arith)
-    go (no e) = rw (if-ne g lastGeneration 1 (g + 1) e) (omega arith, omega arith)
-
 pub after-in : (reset : Bool) (g : ℕ) → 1 ≤ g → g ≤ lastGeneration → (1 ≤ generationAfter reset g) × (generationAfter reset g ≤ lastGeneration)
 after-in true g lo hi = (omega arith, omega arith)
-after-in false g lo hi = raised-in g lo hi
+after-in false g lo hi = (raised-least g, raised-most g hi)
 
 module _ (st : State) (W : Working (view st)) (reset : Bool) where
   in-range : (1 ≤ generationAfter reset (st .head .generation)) × (generationAfter reset (st .head .generation) ≤ lastGeneration)

@@ -76,8 +76,12 @@ lives-less g a k h l n = omega (arith, lives-in g a 0 k h l, sign-one (g a) n)
 lives-same : (g : ℕ → ℕ) (a v k : ℕ) → 0 < a → a ≤ k → g a ≢ 0 → v ≢ 0 → lives (upd g a v) k ≡ lives g k
 lives-same g a v k h l n m = omega (arith, lives-in g a v k h l, sign-one (g a) n, sign-one v m)
 
-lives-grow : (g : ℕ → ℕ) (k : ℕ) → g (k + 1) ≡ 0 → lives g (k + 1) ≡ lives g k
-lives-grow g k e = rw add-one (omega (arith, ap sign (rw add-one at e)))
+-- and past the slots that were counted
+pub lives-free : (g : ℕ → ℕ) (k : ℕ) → g (k + 1) ≡ 0 → lives g (k + 1) ≡ lives g k
+lives-free g k e = rw add-one (omega (arith, ap sign (rw add-one at e)))
+
+pub lives-live : (g : ℕ → ℕ) (k : ℕ) → g (k + 1) ≢ 0 → lives g (k + 1) ≡ lives g k + 1
+lives-live g k e = rw (add-one k) (omega (arith, sign-one (g (suc k)) (rw add-one at e)))
 
 -- ---- which slot is taken
 
@@ -147,7 +151,7 @@ module _ {p : Pool} {g n : ℕ → ℕ} where
     still = refl;
     after = λ v m h k. record {
       fits = omega (arith, room e);
-      number = omega (arith, lives-more g (p .extent + 1) v (p .extent + 1) (omega arith) (omega arith) (P .past (p .extent + 1) (omega arith) .0) h, lives-grow g (p .extent) (P .past (p .extent + 1) (omega arith) .0), P .number);
+      number = omega (arith, lives-more g (p .extent + 1) v (p .extent + 1) (omega arith) (omega arith) (P .past (p .extent + 1) (omega arith) .0) h, lives-free g (p .extent) (P .past (p .extent + 1) (omega arith) .0), P .number);
       chain = record { slots = []; walk = refl; once = tt; free = tt };
       none = upd-other g (p .extent + 1) v 0 (omega arith) ∙ P .none;
       past = λ s l. let o = P .past s (omega arith) in (upd-other g (p .extent + 1) v s (omega arith) ∙ o .0, k s (o .0) (omega arith) ∙ o .1);

@@ -1,7 +1,7 @@
 use mathlib.Core.Logic.{_≢_}
-use Rattle.rules.proofs.laws.Chains.{lives-le, lives-free, lives-live}
+use Rattle.rules.proofs.laws.Pools.{lives, lives-free, lives-live}
+use Rattle.rules.proofs.laws.Count.{lives-le}
 use Rattle.sound.specs.Parts.{HeaderOk, Headers}
-use Rattle.rules.proofs.laws.Pools.{lives}
 use Rattle.rules.specs.Tables.{cell, headerWidth}
 use mathlib.Core.Path.{_≡_, refl, sym, _∙_}
 use Prim.Native.Nat.{ℕ, _+_, _*_, _-_, _≤_, _<_}
