@@ -46,3 +46,4 @@ pub mod Sets
 pub mod Empty
 pub mod Drained
 pub mod Kept
+pub mod Doors

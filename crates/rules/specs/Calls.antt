@@ -62,8 +62,8 @@ abbrev pub Is : Type 0 → Bool → Type 0
 Is P true = P
 Is P false = P → ⊥
 
--- Tables, last: the host's door. What is promised of the outcome of each call
+-- Tables, last: the host's door. What is promised of the outcome of each call; soundness is asked where shape fits (Refusals 2)
 pub record AtDoor (st : State) (lent : List ℕ) (c : Call) (o : Outcome) : Type 0 where
   pub sound : Bool
-  pub decided : Is (Sound st) sound
+  pub decided : shaped st ≡ true → Is (Sound st) sound
   pub same : o ≡ outcome st lent (door st sound (ruling st lent c))

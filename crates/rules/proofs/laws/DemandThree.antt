@@ -1,5 +1,5 @@
 -- Demand 3, for every sequence of calls from fresh tables: the book's claim, proved.
-use mathlib.Core.Path.{_≡_, sym, ap, _∙_, subst}
+use mathlib.Core.Path.{_≡_, sym, ap, _∙_, subst, refl}
 use mathlib.Core.Logic.{_≢_}
 use mathlib.Core.Bool.{true, true≢false}
 use mathlib.Core.List.{List}
@@ -11,7 +11,7 @@ use Rattle.rules.specs.declared.Refusal.{Refusal}
 use Rattle.rules.specs.declared.Refusal.the-variants.{Shape, Unsound, Dead, SameClass, NoElement, NoShared, Short, Malformed}
 use Rattle.rules.specs.Notation.{_==_, _<?_}
 use Rattle.rules.specs.Tables.{classOf, State, sizeAt}
-use Rattle.rules.specs.Refusals.{Ruling, refuse, Outcome, outcome, numberOf, door}
+use Rattle.rules.specs.Refusals.{Ruling, refuse, Outcome, outcome, numberOf}
 use Rattle.rules.specs.Runs
 use Rattle.rules.specs.Calls.{Call, union, step, AtDoor}
 use Rattle.rules.specs.History.{History, runOf, othersOf, noted}
@@ -22,6 +22,7 @@ use Rattle.rules.proofs.laws.Tests.{eq-is, le-is, is-so, is-not}
 use Rattle.rules.proofs.laws.Working.{view}
 use Rattle.rules.proofs.laws.Rep.{LiveKey}
 use Rattle.rules.proofs.laws.Good.{Good, live-of, run-from, size-from, agrees}
+use Rattle.rules.proofs.laws.Doors.{passed}
 use Rattle.rules.proofs.laws.Follows.{follows, by-test, by-key}
 use Rattle.rules.proofs.laws.Histories.Cleared.{good-start, good-fresh}
 use Rattle.rules.proofs.laws.EveryCall.{call-follows}
@@ -42,8 +43,7 @@ after-good (call a lent c o d) = good-call (after-good a) lent c o d
 
 -- and any call can be the next one, with its own rule's outcome
 pub goes-on : {st : State} {h : History} → After st h → (lent : List ℕ) (c : Call) → AtDoor st lent c (step st lent c)
-unfolding door
-goes-on a lent c = let Y = after-good a .ready in record { sound = true; decided = Y .sound; same = rw (Y .shape) }
+goes-on {st} a lent c = passed st lent c (step st lent c) (after-good a .ready) refl
 
 -- no call of such a sequence is refused 1 or 2
 passes : (st : State) (h : History) → Good st h → (lent : List ℕ) (c : Call) (o : Outcome) → AtDoor st lent c o → (o .said .number ≢ 1) × (o .said .number ≢ 2)
