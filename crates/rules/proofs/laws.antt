@@ -18,6 +18,7 @@ pub mod Classes
 pub mod Headers
 pub mod Good
 pub mod Refused
+pub mod Rulings
 pub mod Follows
 pub mod Histories
 pub mod EveryCall

@@ -23,7 +23,8 @@ use Rattle.rules.proofs.laws.Working.{view}
 use Rattle.rules.proofs.laws.Rep.{LiveKey}
 use Rattle.rules.proofs.laws.Good.{Good, live-of, run-from, size-from, agrees}
 use Rattle.rules.proofs.laws.Doors.{passed}
-use Rattle.rules.proofs.laws.Follows.{follows, by-test, by-key}
+use Rattle.rules.proofs.laws.Rulings.{by-test, by-key}
+use Rattle.rules.proofs.laws.Follows.{follows}
 use Rattle.rules.proofs.laws.Histories.Cleared.{good-start, good-fresh}
 use Rattle.rules.proofs.laws.EveryCall.{call-follows}
 use Rattle.rules.proofs.laws.UnionFrame.{third-frames, third-headers, rewrites-run}

@@ -21,7 +21,8 @@ use Rattle.rules.proofs.laws.Tests.{eq-is, is-not}
 use Rattle.rules.proofs.laws.Working.{view}
 use Rattle.rules.proofs.laws.Safe.{working}
 use Rattle.rules.proofs.laws.Good.{Good, live-of}
-use Rattle.rules.proofs.laws.Follows.{Follows, refused, done, by-keys, either, on-live}
+use Rattle.rules.proofs.laws.Rulings.{by-keys}
+use Rattle.rules.proofs.laws.Follows.{Follows, refused, done, either, on-live}
 use Rattle.rules.proofs.laws.Histories.NewRun.{good-newRun}
 use Rattle.rules.proofs.laws.Histories.Insert.{good-insert}
 use Rattle.rules.proofs.laws.Histories.Union.{good-first, good-second}

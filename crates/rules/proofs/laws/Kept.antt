@@ -2,17 +2,16 @@
 use mathlib.Core.Path.{_≡_, refl, sym}
 use mathlib.Core.Logic.{_≢_}
 use mathlib.Core.Bool.{Bool, true, false}
-use mathlib.Core.List.{List, [], _∷_, map}
+use mathlib.Core.List.{List, [], map}
 use Prim.Native.Nat.{ℕ}
 use native.Mathlib.Omega.{arith}
-use lib.Dec.{T, eqb-refl}
 use Rattle.rules.specs.declared.Key.{Key}
 use Rattle.rules.specs.declared.Found.the-variants as lookup
 use Rattle.rules.specs.declared.Refusal.the-variants.{Shape}
 use Rattle.rules.specs.Notation.{if_then_else_, _==_, _<?_}
 use Rattle.rules.specs.Tables.{frameWidth, classOf, State, sizeAt}
 use Rattle.rules.specs.Refusals
-use Rattle.rules.specs.Refusals.{Ruling, refuse, accept, outcome, withLive, withAllLive}
+use Rattle.rules.specs.Refusals.{Ruling, refuse, accept, outcome, withLive}
 use Rattle.rules.specs.Reads
 use Rattle.rules.specs.Runs
 use Rattle.rules.specs.Drains
@@ -24,9 +23,9 @@ use Rattle.rules.specs.Slots
 use Rattle.rules.specs.Slots.{isFull}
 use Rattle.rules.specs.Compress
 use Rattle.rules.specs.Calls.{Call, lenSurject, inSameSurject, getElement, getShared, setElement, setShared, check, newRun, insert, union, remove, removeShared, list, drain, drainAll, clear, exchange, compress, ruling, Ready, step, freshStep}
-use Rattle.rules.proofs.laws.Lists.{All}
+use Rattle.rules.proofs.laws.Lists.{all-map, all-image}
 use Rattle.rules.proofs.laws.Working.{view}
-use Rattle.rules.proofs.laws.Safe.{working, looked}
+use Rattle.rules.proofs.laws.Safe.{working}
 use Rattle.rules.proofs.laws.Stored.{room}
 use Rattle.rules.proofs.laws.Sets.{setElement-keeps, setShared-keeps, exchange-keeps}
 use Rattle.rules.proofs.laws.NewRun.{newRun-keeps}
@@ -36,7 +35,8 @@ use Rattle.rules.proofs.laws.Remove.{remove-keeps}
 use Rattle.rules.proofs.laws.RemoveShared.{removeShared-keeps}
 use Rattle.rules.proofs.laws.Empty.{clear-keeps, fresh-keeps}
 use Rattle.rules.proofs.laws.Compress.{compress-keeps}
-use Rattle.rules.proofs.laws.Follows.{by-test, by-key}
+use Rattle.rules.proofs.laws.Rulings.{live-at, by-test, by-key, by-keys}
+use Rattle.rules.proofs.laws.Tests.{eq-is, is-not}
 use Rattle.rules.proofs.laws.Drained.{drain-keeps, drainAll-keeps}
 
 -- a ruling after which the state is sound: a refusal, which leaves it, or one that accepts with such a state
@@ -47,18 +47,9 @@ Keeps (accept values over st places) = Ready st
 either : (b : Bool) (p q : Ruling) → (b ≡ true → Keeps p) → (b ≡ false → Keeps q) → Keeps (if b then p else q)
 either = by-test Keeps
 
--- two numbers that are told apart
-differ : (m n : ℕ) → (m == n) ≡ false → m ≢ n
-differ m n e q = let t : T (m == n) = rw q (eqb-refl n) in rw e at t
-
 module _ (st : State) (R : Ready st) where
-  -- a live key's slot holds a frame
   on-live : (k : Key) (rule : ℕ → Ruling) → (view st .gen (k .slot) ≢ 0 → Keeps (rule (k .slot))) → Keeps (withLive st k rule)
-  on-live k rule h = by-key Keeps (λ r. tt) st k rule (λ e. let l = looked st k (k .slot) e in h (omega (arith, l .live .used)))
-
-  on-all : (ks : List Key) (rule : List ℕ → Ruling) → ((xs : List ℕ) → All (λ c. view st .count c ≢ 0) (map (classOf (st .elems)) xs) → Keeps (rule xs)) → Keeps (withAllLive st ks rule)
-  on-all [] rule h = h [] tt
-  on-all (k ∷ ks) rule h = on-live k _ (λ l. on-all ks (λ xs. rule (k .slot ∷ xs)) (λ xs a. h (k .slot ∷ xs) (working st R .class-live (k .slot) l, a)))
+  on-live k rule h = by-key Keeps (λ r. tt) st k rule (λ l. h (live-at st k l))
 
   keeps : (lent : List ℕ) (c : Call) → Keeps (ruling st lent c)
   unfolding Reads.lenSurject Reads.inSameSurject Reads.getElement Reads.getShared Reads.setElement Reads.setShared Runs.newRun Runs.insert Runs.keeping Runs.union Runs.remove Drains.removeShared Drains.list Drains.drain Drains.drainAll Drains.clear Exchange.exchange Compress.compress
@@ -78,7 +69,7 @@ module _ (st : State) (R : Ready st) where
       let y = k .slot in
       on-live j _ (λ h. on-live k _ (λ l.
       either (classOf (st .elems) x == classOf (st .elems) y) _ _ (λ e. tt) (λ e.
-      let apart : view st .class x ≢ view st .class y = differ (view st .class x) (view st .class y) e in
+      let apart = is-not (view st .class x ≡ view st .class y) (view st .class x == view st .class y) (eq-is (view st .class x) (view st .class y)) e in
       either (sizeAt st x <? sizeAt st y) _ _ (λ f. joined-keeps st R y x l h (λ q. apart (sym q))) (λ f. joined-keeps st R x y h l apart))))
   keeps lent (remove k) = on-live k _ (λ h. remove-keeps st R (k .slot) h)
   keeps lent (removeShared k) = on-live k _ (λ h. removeShared-keeps st R (k .slot) h)
@@ -86,7 +77,10 @@ module _ (st : State) (R : Ready st) where
   keeps lent (drain k) = on-live k _ (λ h. either (isShort lent (sizeAt st (k .slot)) recordWidth) _ _ (λ e. tt) (λ e. drain-keeps (sizeAt st (k .slot)) st R (k .slot) h (omega arith)))
   keeps lent drainAll = either (isShort lent (st .head .elems .live) recordWidth) _ _ (λ e. tt) (λ e. clear-keeps _ (drainAll-keeps (st .head .shared .live) st R))
   keeps lent clear = clear-keeps st R
-  keeps lent (exchange keys values) = on-all keys _ (λ xs a. either (allDiffer (map (classOf (st .elems)) xs)) _ _ (λ e. exchange-keeps (map (classOf (st .elems)) xs) values st R a) (λ e. tt))
+  keeps lent (exchange keys values) =
+      by-keys Keeps (λ r. tt) st keys _ (λ xs a.
+      let cs = map (classOf (st .elems)) xs in
+      either (allDiffer cs) _ _ (λ e. exchange-keeps cs values st R (all-image (classOf (st .elems)) (λ c. view st .count c ≢ 0) xs (all-map (λ x l. working st R .class-live x l) xs a))) (λ e. tt))
   keeps lent (compress reset) = either (isShort lent (st .head .elems .capacity) frameWidth) _ _ (λ e. tt) (λ e. compress-keeps st reset R)
 
 after : (st : State) (lent : List ℕ) (r : Ruling) → Ready st → Keeps r → Ready (outcome st lent r .state)

@@ -9,7 +9,7 @@ use Rattle.rules.specs.Tables.{lastGeneration, classOf, State, sizeAt}
 use Rattle.rules.specs.Slots.{freed, freeShared, raised, raise}
 use Rattle.rules.specs.Drains.{freeRing}
 use Rattle.rules.specs.Calls.{Ready}
-use Rattle.rules.proofs.laws.Lists.{In, Out, all-map, out-by, in-dec}
+use Rattle.rules.proofs.laws.Lists.{In, Out, all-map, out-by, in-dec, out-of}
 use Rattle.rules.proofs.laws.Columns.{upd, upd-same, upd-other}
 use Rattle.rules.proofs.laws.Pools.{free}
 use Rattle.rules.proofs.laws.Working.{View, view, Frame, Ring, Working, next-class, prev-class}
@@ -17,7 +17,7 @@ use Rattle.rules.proofs.laws.Soundness.{shaped-of, ring-at}
 use Rattle.rules.proofs.laws.Safe.{working}
 use Rattle.rules.proofs.laws.Stored.{Still, still-then, ready-still, live-stored}
 use Rattle.rules.proofs.laws.Links.{live-ne, ring-frame}
-use Rattle.rules.proofs.laws.Wiped.{wipe, thread, freedAll, wipe-out, wipe-zero, wipe-in, thread-out, not-in, pool-all, freeRing-still, freeAllV, freeRing-view}
+use Rattle.rules.proofs.laws.Wiped.{wipe, thread, freedAll, wipe-out, wipe-zero, wipe-in, thread-out, pool-all, freeRing-still, freeAllV, freeRing-view}
 use Rattle.rules.proofs.laws.Freed.{raiseV, raised-least, raised-most, freeShared-still, raise-still, freeSharedV, freeShared-view}
 
 unfoldable pub removeSharedV : View → ℕ → List ℕ → View
@@ -66,7 +66,7 @@ module _ (v : View) (c x : ℕ) (S : Working v) (hc : v .count c ≢ 0) (r : Rin
 
       kept : (s : ℕ) → wipe xs (v .gen) s ≢ 0 → Kept s
       kept s h =
-          let out : Out s xs = not-in s xs (λ m. h (wipe-in xs (v .gen) s m)) in
+          let out : Out s xs = out-of s xs (λ m. h (wipe-in xs (v .gen) s m)) in
           let live : v .gen s ≢ 0 = rw (wipe-out xs (v .gen) s out) at h in
           let other : v .class s ≢ c = λ e. h (wipe-in xs (v .gen) s (r .whole s (record { live = live; mine = e }))) in
           record { live = live; other = other; out = out; next-out = outside (v .next s) (λ e. other (sym (next-class v S s live) ∙ e)); prev-out = outside (v .prev s) (λ e. other (sym (prev-class v S s live) ∙ e)) }
@@ -76,12 +76,12 @@ module _ (v : View) (c x : ℕ) (S : Working v) (hc : v .count c ≢ 0) (r : Rin
 
       gens : (s : ℕ) → Dec (In s xs) → wipe xs (v .gen) s ≤ lastGeneration
       gens s (yes m) = rw (wipe-in xs (v .gen) s m) (omega arith)
-      gens s (no m) = rw (wipe-out xs (v .gen) s (not-in s xs m)) (S .gens s)
+      gens s (no m) = rw (wipe-out xs (v .gen) s (out-of s xs m)) (S .gens s)
 
       zeros : (s : ℕ) → wipe xs (v .gen) s ≡ 0 → Dec (In s xs) → (wipe xs (v .pay) s ≡ 0) × (wipe xs (v .class) s ≡ 0) × (wipe xs (v .prev) s ≡ 0)
       zeros s h (yes m) = (wipe-in xs (v .pay) s m, wipe-in xs (v .class) s m, wipe-in xs (v .prev) s m)
       zeros s h (no m) =
-          let z = S .zeros s (sym (wipe-out xs (v .gen) s (not-in s xs m)) ∙ h) in
+          let z = S .zeros s (sym (wipe-out xs (v .gen) s (out-of s xs m)) ∙ h) in
           (wipe-zero xs (v .pay) s (z .0), wipe-zero xs (v .class) s (z .1), wipe-zero xs (v .prev) s (z .2))
 
       value-zero : (d : ℕ) → Dec (d ≡ c) → upd (v .count) c 0 d ≡ 0 → upd (v .value) c 0 d ≡ 0

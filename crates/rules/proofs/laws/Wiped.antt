@@ -9,7 +9,7 @@ use Rattle.rules.specs.declared.Pool.{Pool}
 use Rattle.rules.specs.Tables.{frameWidth, State, withPools}
 use Rattle.rules.specs.Slots.{freed, freeElement}
 use Rattle.rules.specs.Drains.{freeRing}
-use Rattle.rules.proofs.laws.Lists.{Walk, walk-frame, All, In, Out, NoDup, all-map, all-both, all-of}
+use Rattle.rules.proofs.laws.Lists.{Walk, walk-frame, All, In, Out, NoDup, all-map, all-both}
 use Rattle.rules.proofs.laws.Columns.{upd, upd-same, upd-other}
 use Rattle.rules.proofs.laws.Pools.{Pooled, free}
 use Rattle.rules.proofs.laws.Working.{View, view}
@@ -57,9 +57,6 @@ pool-all [] P u h = P
 pool-all (x ∷ xs) {p} {g} {n} P u h =
     pool-all xs (free P x (h .0) (upd n x (p .root)) (upd-same n x (p .root)) (λ s e. upd-other n x (p .root) s (λ q. h .0 (rw q at e)))) (u .1)
     (all-both {P = λ s. x ≢ s} {Q = λ s. g s ≢ 0} (λ s o l. rw (upd-other g x 0 s (λ q. o (sym q))) l) xs (u .0) (h .1))
-
-pub not-in : (s : ℕ) (xs : List ℕ) → (In s xs → ⊥) → Out s xs
-not-in s xs h = all-of (λ y. s ≢ y) xs (λ y m e. h (rw e m))
 
 -- ---- the book's freeing along next
 

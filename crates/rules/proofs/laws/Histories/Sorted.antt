@@ -2,15 +2,15 @@
 use mathlib.Core.Path.{_≡_, refl, sym, ap, _∙_}
 use mathlib.Core.Logic.{_≢_, _⊎_, inl, inr}
 use mathlib.Core.Bool.{Bool, true, false}
-use mathlib.Core.List.{List, [], _∷_, _++_, map, map-map, foldr}
-use Prim.Native.Nat.{ℕ, zero, suc, _+_, _≤_, _<_, min}
+use mathlib.Core.List.{List, [], _∷_, map, map-map, foldr}
+use Prim.Native.Nat.{ℕ, suc, _≤_, _<_, min}
 use native.Mathlib.Nat.{min-le-left, min-le-right, min-eq-left, min-eq-right}
 use native.Mathlib.Omega.{arith}
 use native.Mathlib.Decide.{decLe}
 use lib.Dec.{T}
 use lib.ListN.{length}
 use Rattle.rules.specs.declared.Key.{Key}
-use Rattle.rules.specs.Notation.{if_then_else_, _<?_, flat, upTo, keep}
+use Rattle.rules.specs.Notation.{if_then_else_, _<?_, flat, upTo}
 use Rattle.rules.specs.Tables.{State, sizeAt}
 use Rattle.rules.specs.Calls.{Is}
 use Rattle.rules.specs.Compress.{isLowest, lowestSlots}
