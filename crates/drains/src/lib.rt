@@ -1,38 +1,19 @@
 // Whole tables and whole runs: fresh, clear, list, the drains and remove shared (Module 6; Rules 2 and 8 to 12).
 use rules::Done;
-use rules::FRAME;
-use rules::HEADER;
 use rules::Head;
 use rules::HeadDone;
 use rules::Pool;
 use rules::Refusal;
+use sound::both_fit;
 ghost use mathlib.Core.Path.{_≡_};
 ghost use mathlib.Core.List.{List, []};
 ghost use Prim.Native.Nat.{ℕ, _+_, _*_, _≤_, _<_};
 ghost use lib.ListN.{length, replicate};
-ghost use Rattle.rules.specs.Tables.{mostSlots, frameWidth, headerWidth, stateOf};
-ghost use Rattle.rules.specs.Sound as sound;
+ghost use Rattle.rules.specs.Tables.{frameWidth, headerWidth, stateOf};
 ghost use Rattle.rules.specs.Slots.{emptyPool, empty};
 ghost use Rattle.rules.specs.Calls as calls;
 ghost use Rattle.rules.specs.Calls.{Ready, step, freshStep};
 ghost use Rattle.rules.specs.Answers.{afterDone};
-
-// Tables: in the rules, mostSlots.
-const MOST_SLOTS: u64 = 65536;
-
-// Refusals 1, of one table.
-fn fits(capacity: u64, width: u64, table: &[u64]) -> bool
-    requires { ⌜ width ≤ 64 ⌝ }
-    ensures { λ r. ⌜ sound.fits capacity width (now (table .entry)) ≡ r ⌝ }
-{
-    if capacity == 0 {
-        return false;
-    }
-    if MOST_SLOTS < capacity {
-        return false;
-    }
-    table.len() as u64 == capacity * width
-}
 
 // Rules 2 and 12: every number of a table becomes 0.
 fn zero(t: &mut [u64])
@@ -80,14 +61,7 @@ pub fn fresh(
 ) -> HeadDone
     ensures { λ r. ⌜ afterDone r (now (elems .exit)) (now (shared .exit)) [] ≡ freshStep (stateOf head (now (elems .entry)) (now (shared .entry))) frames headers ⌝ }
 {
-    if !fits(frames, FRAME, elems) {
-        return HeadDone {
-            head,
-            answer: Done::Refused(Refusal::Shape),
-            over: false,
-        };
-    }
-    if !fits(headers, HEADER, shared) {
+    if !both_fit(elems, shared, frames, headers) {
         return HeadDone {
             head,
             answer: Done::Refused(Refusal::Shape),
