@@ -1,0 +1,130 @@
+//! The calls that both sides are given. A frame has a name, which stands for its key on either side.
+
+use std::fmt;
+
+/// A frame, by the order in which frames were asked for. [NEVER] is a key that was never given.
+pub type Name = usize;
+pub const NEVER: Name = usize::MAX;
+
+#[derive(Clone, Copy, PartialEq, Eq, Debug)]
+pub enum Call {
+    Fresh,
+    Check,
+    LenSurject(Name),
+    InSameSurject(Name, Name),
+    Get(Name),
+    GetShared(Name),
+    Set(Name, u64),
+    SetShared(Name, u64),
+    Exchange([Name; 4], [u64; 4]),
+    /// The frame that is put in, its payload, the run's shared value.
+    InsertNew(Name, u64, u64),
+    /// At the first; the frame that is put in is the second.
+    Insert(Name, Name, u64),
+    Union(Name, Name),
+    RemoveElement(Name),
+    RemoveShared(Name),
+    List(Name),
+    Drain(Name),
+    DrainAll,
+    Clear,
+    Compress(bool),
+}
+
+pub const KINDS: [&str; 19] = [
+    "fresh",
+    "check",
+    "len_surject",
+    "in_same_surject",
+    "get",
+    "get_shared",
+    "set",
+    "set_shared",
+    "exchange_shared4",
+    "insert_new",
+    "insert",
+    "union",
+    "remove_element",
+    "remove_shared",
+    "list",
+    "drain",
+    "drain_all",
+    "clear",
+    "compress_canonical",
+];
+
+impl Call {
+    /// Its place in [KINDS].
+    pub fn kind(&self) -> usize {
+        match self {
+            Call::Fresh => 0,
+            Call::Check => 1,
+            Call::LenSurject(_) => 2,
+            Call::InSameSurject(..) => 3,
+            Call::Get(_) => 4,
+            Call::GetShared(_) => 5,
+            Call::Set(..) => 6,
+            Call::SetShared(..) => 7,
+            Call::Exchange(..) => 8,
+            Call::InsertNew(..) => 9,
+            Call::Insert(..) => 10,
+            Call::Union(..) => 11,
+            Call::RemoveElement(_) => 12,
+            Call::RemoveShared(_) => 13,
+            Call::List(_) => 14,
+            Call::Drain(_) => 15,
+            Call::DrainAll => 16,
+            Call::Clear => 17,
+            Call::Compress(_) => 18,
+        }
+    }
+}
+
+struct Shown(Name);
+
+impl fmt::Display for Shown {
+    fn fmt(&self, f: &mut fmt::Formatter<'_>) -> fmt::Result {
+        if self.0 == NEVER { write!(f, "never") } else { write!(f, "f{}", self.0) }
+    }
+}
+
+impl fmt::Display for Call {
+    fn fmt(&self, f: &mut fmt::Formatter<'_>) -> fmt::Result {
+        let kind = KINDS[self.kind()];
+        match *self {
+            Call::Fresh | Call::Check | Call::DrainAll | Call::Clear => write!(f, "{kind}"),
+            Call::LenSurject(k)
+            | Call::Get(k)
+            | Call::GetShared(k)
+            | Call::RemoveElement(k)
+            | Call::RemoveShared(k)
+            | Call::List(k)
+            | Call::Drain(k) => write!(f, "{kind} {}", Shown(k)),
+            Call::InSameSurject(j, k) | Call::Union(j, k) => write!(f, "{kind} {} {}", Shown(j), Shown(k)),
+            Call::Set(k, n) | Call::SetShared(k, n) => write!(f, "{kind} {} {n}", Shown(k)),
+            Call::Exchange([a, b, c, d], [x, y, z, w]) => {
+                write!(f, "{kind} {} {} {} {} {x} {y} {z} {w}", Shown(a), Shown(b), Shown(c), Shown(d))
+            }
+            Call::InsertNew(name, payload, value) => write!(f, "{} = {kind} {payload} {value}", Shown(name)),
+            Call::Insert(at, name, payload) => write!(f, "{} = {kind} {} {payload}", Shown(name), Shown(at)),
+            Call::Compress(reset) => write!(f, "{kind}{}", if reset { " reset" } else { "" }),
+        }
+    }
+}
+
+/// New tables of these capacities, and the calls made on them.
+#[derive(Clone, PartialEq, Eq, Debug)]
+pub struct Case {
+    pub elems: usize,
+    pub shared: usize,
+    pub calls: Vec<Call>,
+    /// All frames are compared after every so many calls, and after the last.
+    pub stride: usize,
+}
+
+impl fmt::Display for Case {
+    fn fmt(&self, f: &mut fmt::Formatter<'_>) -> fmt::Result {
+        write!(f, "capacities {} {}", self.elems, self.shared)?;
+        self.calls.iter().try_for_each(|call| write!(f, "\n{call}"))
+    }
+}

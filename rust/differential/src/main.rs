@@ -1,0 +1,151 @@
+//! Drives the oracle and the archive with the same calls, and compares what they say and hold after each.
+//!
+//! `differential [CASES] [SEED] [--length N] [--fault NAME]`: all sequences of up to N calls (5), the adversarial cases, then
+//! CASES random sequences. Exit status 0: no difference; 1: a difference, shown by the smallest sequence that has it; 2: bad usage.
+
+mod calls;
+mod compare;
+mod generate;
+mod pair;
+mod run;
+
+use calls::{Call, Case, KINDS};
+use generate::Random;
+use pair::{Fault, Tally};
+use run::{Difference, Way};
+use std::io::{IsTerminal, Write};
+use std::process::exit;
+use std::time::{Duration, Instant};
+
+struct Args {
+    cases: u64,
+    seed: u64,
+    length: usize,
+    fault: Fault,
+}
+
+const USAGE: &str = "usage: differential [CASES] [SEED] [--length N] [--fault equal|run|map|further]";
+
+fn args() -> Option<Args> {
+    let mut args = Args { cases: 20_000, seed: 1, length: 5, fault: Fault::None };
+    let (mut words, mut numbers) = (std::env::args().skip(1), 0);
+    while let Some(word) = words.next() {
+        match word.as_str() {
+            "--length" => args.length = words.next()?.parse().ok()?,
+            "--fault" => {
+                args.fault = match words.next()?.as_str() {
+                    "equal" => Fault::EqualSwapped,
+                    "run" => Fault::RunStays,
+                    "map" => Fault::MapCrossed,
+                    "further" => Fault::OneFurther,
+                    _ => return None,
+                }
+            }
+            number => {
+                *[&mut args.cases, &mut args.seed].into_iter().nth(numbers)? = number.parse().ok()?;
+                numbers += 1;
+            }
+        }
+    }
+    Some(args)
+}
+
+/// Counts what was met, and shows where the run is.
+struct Progress {
+    tally: Tally,
+    start: Instant,
+    shown: Instant,
+}
+
+impl Progress {
+    fn add(&mut self, phase: &str, tally: &Tally) {
+        let all = &mut self.tally;
+        all.sequences += tally.sequences;
+        all.compared += tally.compared;
+        for (sum, counts) in all.calls.iter_mut().zip(tally.calls) {
+            sum.iter_mut().zip(counts).for_each(|(sum, n)| *sum += n);
+        }
+        all.longest_ring = all.longest_ring.max(tally.longest_ring);
+        all.largest_union = all.largest_union.max(tally.largest_union);
+        if self.shown.elapsed() > Duration::from_millis(200) {
+            self.shown = Instant::now();
+            self.line(&format!("{phase}: {} sequences, {} calls", self.tally.sequences, calls_made(&self.tally)));
+        }
+    }
+
+    fn line(&self, text: &str) {
+        if std::io::stderr().is_terminal() {
+            eprint!("\r{text:<78}");
+            let _ = std::io::stderr().flush();
+        }
+    }
+}
+
+fn calls_made(tally: &Tally) -> u64 {
+    tally.calls.iter().flatten().sum()
+}
+
+/// Whether both sides put a new frame on the same side of its target: three frames tell.
+fn measured_side() -> bool {
+    let calls = vec![Call::InsertNew(0, 1, 2), Call::Insert(0, 1, 3), Call::Insert(0, 2, 4), Call::List(0)];
+    let way = Way { ordered: true, fault: Fault::None };
+    way.run(&Case { elems: 3, shared: 1, calls, stride: 4 }).is_ok()
+}
+
+fn all(args: &Args, way: &Way, progress: &mut Progress) -> Result<(), (Case, Difference)> {
+    for (elems, shared) in [(3, 3), (5, 4)] {
+        let mut case = Case { elems, shared, calls: vec![], stride: usize::MAX };
+        generate::every(way, &mut case, args.length, &mut |tally| progress.add("all short sequences", tally))?;
+    }
+    for (name, case) in generate::adversarial(args.seed, 4_096) {
+        match way.run(&case) {
+            Ok(tally) => progress.add(name, &tally),
+            Err(difference) => return Err((case, difference)),
+        }
+    }
+    let r = &mut Random::new(args.seed);
+    for _ in 0..args.cases {
+        progress.add("random sequences", &generate::random(way, r)?);
+    }
+    Ok(())
+}
+
+fn summary(args: &Args, way: &Way, progress: &Progress) {
+    let tally = &progress.tally;
+    let against = if cfg!(feature = "mock") { "the MOCK, not the proved archive" } else { "the archive" };
+    println!("Differential run: the Rust (three files over a stand-in) against {against}");
+    println!("{:<20}{:>12}{:>12}{:>12}", "call", "accepted", "refused 3", "refused 4");
+    for (name, counts) in KINDS.iter().zip(tally.calls) {
+        println!("{name:<20}{:>12}{:>12}{:>12}", counts[0], counts[1], counts[2]);
+    }
+    println!("{:<20}{:>12} in {} sequences, all frames compared {} times", "calls", calls_made(tally), tally.sequences, tally.compared);
+    println!("{:<20}{:>12}", "longest ring", tally.longest_ring);
+    println!("{:<20}{:>12}", "largest union", tally.largest_union);
+    let side = if way.ordered { "the same: rings in order" } else { "DIFFERENT: rings as sets" };
+    println!("{:<20}{side}", "insert's side");
+    println!("{:<20}cases {}, seed {}, length {}, {:?}", "run", args.cases, args.seed, args.length, args.fault);
+    println!("{:<20}{:>12.1}", "seconds", progress.start.elapsed().as_secs_f64());
+}
+
+fn main() {
+    let Some(args) = args() else {
+        eprintln!("{USAGE}");
+        exit(2);
+    };
+    std::panic::set_hook(Box::new(|_| {}));
+    let way = Way { ordered: measured_side(), fault: args.fault };
+    let mut progress = Progress { tally: Tally::default(), start: Instant::now(), shown: Instant::now() };
+    let found = all(&args, &way, &mut progress);
+    progress.line("");
+    progress.line("");
+    summary(&args, &way, &progress);
+    match found {
+        Ok(()) => println!("no difference"),
+        Err((case, difference)) => {
+            let calls = case.calls.len();
+            let (case, difference) = way.shrink(&case, difference);
+            println!("A DIFFERENCE, found after {calls} calls; the smallest sequence that shows it:\n{case}\n-- {}", difference.what);
+            exit(1);
+        }
+    }
+}

@@ -1,0 +1,453 @@
+//! Both sides, and the map between their keys. Each call is made on both, and what they answer is compared.
+
+use crate::calls::{Call, Case, NEVER, Name};
+use doorsedge::{Arena, Key, Record, Refusal};
+use triple_arena::traits::*;
+use triple_arena::{SurjectArena, ptr_struct};
+
+ptr_struct!(P0);
+
+pub type Oracle = SurjectArena<P0, u64, u64>;
+
+/// A frame on both sides, and the payload that it was given last.
+#[derive(Clone, Copy, Debug)]
+pub struct Frame {
+    pub key: Key,
+    pub ptr: P0,
+    pub payload: u64,
+}
+
+/// A wrong step that is planted in the driver, to show that the run catches it.
+#[derive(Clone, Copy, PartialEq, Eq, Debug)]
+pub enum Fault {
+    None,
+    /// Union's keys change roles also where the runs are equally large.
+    EqualSwapped,
+    /// Removing a run takes out only the given frame.
+    RunStays,
+    /// After compression the keys of the last two frames are taken for each other.
+    MapCrossed,
+    /// Insert at a run of four or more stands one further.
+    OneFurther,
+}
+
+/// What was met.
+#[derive(Clone, Copy, Default, Debug)]
+pub struct Tally {
+    pub sequences: u64,
+    /// By kind: accepted, dead, same class.
+    pub calls: [[u64; 3]; 19],
+    pub longest_ring: u64,
+    pub largest_union: u64,
+    pub compared: u64,
+}
+
+pub struct Pair {
+    pub port: Arena,
+    pub oracle: Oracle,
+    /// By name; a frame that was removed stays, its keys are then dead on both sides.
+    pub frames: Vec<Option<Frame>>,
+    /// The name that was last given to a slot of the archive, and to one of the oracle.
+    by_key: Vec<Name>,
+    by_ptr: Vec<Name>,
+    /// Whether both sides put a new frame on the same side of its target.
+    pub ordered: bool,
+    pub fault: Fault,
+    pub tally: Tally,
+}
+
+/// No difference.
+pub fn same<T: PartialEq + std::fmt::Debug>(what: &str, port: T, oracle: T) -> Result<(), String> {
+    if port == oracle { Ok(()) } else { Err(format!("{what}: archive {port:?}, oracle {oracle:?}")) }
+}
+
+impl Pair {
+    pub fn new(case: &Case, ordered: bool, fault: Fault) -> Pair {
+        let port = Arena::fresh(case.elems, case.shared).expect("capacities of a case are in range");
+        let oracle = Oracle::with_min_capacity_separated(case.elems, case.shared).unwrap();
+        let (by_key, by_ptr) = (vec![NEVER; case.elems + 1], vec![NEVER; case.elems + 1]);
+        Pair { port, oracle, frames: vec![], by_key, by_ptr, ordered, fault, tally: Tally::default() }
+    }
+
+    /// A name's keys. An unknown name has keys that were never given.
+    pub fn keys(&self, name: Name) -> (Key, P0) {
+        match self.frames.get(name) {
+            Some(Some(frame)) => (frame.key, frame.ptr),
+            _ => (Key::new(0, 1), P0::invalid()),
+        }
+    }
+
+    pub fn is_live(&self, name: Name) -> bool {
+        self.oracle.contains(self.keys(name).1)
+    }
+
+    /// The names of live frames.
+    pub fn live(&self) -> impl Iterator<Item = Name> {
+        (0..self.frames.len()).filter(|name| self.is_live(*name))
+    }
+
+    /// The map is one-to-one: a slot of a live frame is not given again.
+    fn learn(&mut self, name: Name, key: Key, ptr: P0, payload: u64) -> Result<(), String> {
+        let Some(before) = self.by_key.get(key.slot() as usize).copied() else {
+            return Err(format!("the archive gives {key:?}, past its capacity"));
+        };
+        if before != NEVER && self.is_live(before) {
+            return Err(format!("the archive gives {key:?}, the slot of a live frame"));
+        }
+        if self.frames.len() <= name {
+            self.frames.resize(name + 1, None);
+        }
+        self.frames[name] = Some(Frame { key, ptr, payload });
+        self.by_key[key.slot() as usize] = name;
+        self.by_ptr[ptr.inx().get()] = name;
+        Ok(())
+    }
+
+    fn forget(&mut self) {
+        self.by_key.fill(NEVER);
+        self.by_ptr.fill(NEVER);
+    }
+
+    /// The name of a key of the archive, and of one of the oracle.
+    pub fn name_of_key(&self, key: Key) -> Name {
+        let name = self.by_key.get(key.slot() as usize).copied().unwrap_or(NEVER);
+        if self.frames.get(name).is_some_and(|frame| frame.is_some_and(|frame| frame.key == key)) { name } else { NEVER }
+    }
+
+    pub fn name_of_ptr(&self, ptr: P0) -> Name {
+        let name = self.by_ptr.get(ptr.inx().get()).copied().unwrap_or(NEVER);
+        if self.frames.get(name).is_some_and(|frame| frame.is_some_and(|frame| frame.ptr == ptr)) { name } else { NEVER }
+    }
+
+    /// Whether a call would need more room than there is: such calls are outside the domain.
+    pub fn lacks_room(&self, call: &Call) -> bool {
+        let elems = self.oracle.len() == self.oracle.capacity();
+        match call {
+            Call::InsertNew(..) => elems || self.oracle.len_shared() == self.oracle.capacity_shared(),
+            Call::Insert(..) => elems,
+            _ => false,
+        }
+    }
+
+    /// Makes the call on both sides and compares the answers.
+    pub fn make(&mut self, call: &Call) -> Result<(), String> {
+        if self.lacks_room(call) {
+            return Ok(());
+        }
+        let refusal = match *call {
+            Call::InsertNew(..) | Call::Insert(..) | Call::Fresh => self.put_in(call)?,
+            Call::Union(j, k) => self.union(j, k)?,
+            Call::RemoveElement(_) | Call::RemoveShared(_) | Call::Drain(_) => self.take_out(call)?,
+            Call::DrainAll | Call::Clear | Call::Compress(_) => self.on_all(call)?,
+            _ => self.read_or_set(call)?,
+        };
+        let column = match refusal {
+            None => 0,
+            Some(Refusal::Dead) => 1,
+            Some(Refusal::SameClass) => 2,
+            Some(other) => return Err(format!("the archive says {other}")),
+        };
+        self.tally.calls[call.kind()][column] += 1;
+        Ok(())
+    }
+
+    fn read_or_set(&mut self, call: &Call) -> Result<Option<Refusal>, String> {
+        let dead = Refusal::Dead;
+        let (port, oracle) = (&mut self.port, &mut self.oracle);
+        let frames = &self.frames;
+        let keys = |name: Name| match frames.get(name) {
+            Some(Some(frame)) => (frame.key, frame.ptr),
+            _ => (Key::new(0, 1), P0::invalid()),
+        };
+        match *call {
+            Call::Check => {
+                same("check", port.check().is_ok(), Oracle::_check_invariants(oracle).is_ok())?;
+                Ok(port.check().err())
+            }
+            Call::LenSurject(k) => {
+                let said = port.len_surject(keys(k).0);
+                same("len", said, oracle.len_surject(keys(k).1).map(|n| n.get() as u64).ok_or(dead))?;
+                Ok(said.err())
+            }
+            Call::InSameSurject(j, k) => {
+                let said = port.in_same_surject(keys(j).0, keys(k).0);
+                same("in same", said, oracle.in_same_surject(keys(j).1, keys(k).1).ok_or(dead))?;
+                Ok(said.err())
+            }
+            Call::Get(k) => {
+                let said = port.get(keys(k).0);
+                same("payload", said, oracle.get(keys(k).1).copied().ok_or(dead))?;
+                Ok(said.err())
+            }
+            Call::GetShared(k) => {
+                let said = port.get_shared(keys(k).0);
+                same("shared value", said, oracle.get_shared(keys(k).1).copied().ok_or(dead))?;
+                Ok(said.err())
+            }
+            Call::Set(k, payload) => {
+                let said = port.set(keys(k).0, payload);
+                let old = oracle.get_mut(keys(k).1).map(|t| std::mem::replace(t, payload));
+                same("old payload", said, old.ok_or(dead))?;
+                if said.is_ok() {
+                    self.frames[k].as_mut().unwrap().payload = payload;
+                }
+                Ok(said.err())
+            }
+            Call::SetShared(k, value) => {
+                let said = port.set_shared(keys(k).0, value);
+                let old = oracle.get_shared_mut(keys(k).1).map(|s| std::mem::replace(s, value));
+                same("old value", said, old.ok_or(dead))?;
+                Ok(said.err())
+            }
+            Call::Exchange(names, values) => {
+                let said = port.exchange_shared4(names.map(|name| keys(name).0), values);
+                let old = match oracle.get_disjoint_shared_mut(names.map(|name| keys(name).1)) {
+                    Ok(shared) => {
+                        let mut values = values.into_iter();
+                        Ok(shared.map(|s| std::mem::replace(s, values.next().unwrap())))
+                    }
+                    Err(std::slice::GetDisjointMutError::IndexOutOfBounds) => Err(dead),
+                    Err(std::slice::GetDisjointMutError::OverlappingIndices) => Err(Refusal::SameClass),
+                };
+                same("old values", said, old)?;
+                Ok(said.err())
+            }
+            Call::List(k) => {
+                let said = port.list(keys(k).0);
+                let ring = oracle.iter_surject(keys(k).1).map(|ring| ring.map(|(p, _, _)| p).collect::<Vec<_>>());
+                let names = said.clone().map(|ring| ring.into_iter().map(|key| self.name_of_key(key)).collect());
+                let wanted = ring.map(|ring| ring.into_iter().map(|ptr| self.name_of_ptr(ptr)).collect());
+                let (names, wanted) = (names.map(|r| self.as_compared(r)), wanted.map(|r| self.as_compared(r)));
+                same("ring", names, wanted.ok_or(dead))?;
+                Ok(said.err())
+            }
+            _ => unreachable!("no read and no set"),
+        }
+    }
+
+    /// A ring, or the set of its frames where the sides differ in order.
+    pub fn as_compared(&self, mut ring: Vec<Name>) -> Vec<Name> {
+        if !self.ordered {
+            ring.sort_unstable();
+        }
+        ring
+    }
+
+    fn put_in(&mut self, call: &Call) -> Result<Option<Refusal>, String> {
+        match *call {
+            Call::Fresh => {
+                let (elems, shared) = (self.oracle.capacity(), self.oracle.capacity_shared());
+                self.oracle = Oracle::with_min_capacity_separated(elems, shared).unwrap();
+                self.port = Arena::fresh(elems, shared).map_err(|refusal| refusal.to_string())?;
+                self.frames.clear();
+                self.forget();
+                Ok(None)
+            }
+            Call::InsertNew(name, payload, value) => {
+                let said = self.port.insert_new(payload, value);
+                let ptr = self.oracle.insert_surject_within_capacity(payload, value);
+                let (Ok(key), Ok(ptr)) = (said, ptr) else {
+                    return Err(format!("new run: archive {said:?}, oracle {ptr:?}"));
+                };
+                self.learn(name, key, ptr, payload)?;
+                Ok(None)
+            }
+            Call::Insert(at, name, payload) => {
+                let (mut key, ptr) = self.keys(at);
+                if self.fault == Fault::OneFurther && self.port.len_surject(key).is_ok_and(|n| n >= 4) {
+                    key = self.port.list(key).unwrap()[1];
+                }
+                let said = self.port.insert(key, payload);
+                let new = self.oracle.insert_within_capacity(ptr, payload);
+                match (said, new) {
+                    (Ok(key), Ok(ptr)) => {
+                        self.learn(name, key, ptr, payload)?;
+                        Ok(None)
+                    }
+                    (Err(Refusal::Dead), Err(triple_arena::errors::ChainInsertionError::FailedLinkRequirement)) => {
+                        Ok(said.err())
+                    }
+                    _ => Err(format!("insert: archive {said:?}, oracle {new:?}")),
+                }
+            }
+            _ => unreachable!("nothing is put in"),
+        }
+    }
+
+    fn union(&mut self, j: Name, k: Name) -> Result<Option<Refusal>, String> {
+        let ((key0, ptr0), (key1, ptr1)) = (self.keys(j), self.keys(k));
+        let sizes = (self.oracle.len_surject(ptr0), self.oracle.len_surject(ptr1));
+        let equal = sizes.0.is_some() && sizes.0 == sizes.1;
+        let classes = |port: &Arena| port.elems().chunks(5).map(|row| row[2]).collect::<Vec<_>>();
+        let before = classes(&self.port);
+        let said = match self.fault {
+            Fault::EqualSwapped if equal => self.port.union(key1, key0),
+            _ => self.port.union(key0, key1),
+        };
+        match (said, self.oracle.union(ptr0, ptr1)) {
+            (Ok(joined), Some((was, kept))) => {
+                same("union's value", joined.was, was)?;
+                same("union's kept frame", self.name_of_key(joined.kept), self.name_of_ptr(kept))?;
+                let smaller = sizes.0.unwrap().min(sizes.1.unwrap()).get() as u64;
+                same("union's number of entries rewritten", joined.moved, smaller)?;
+                let after = classes(&self.port);
+                let differing = before.iter().zip(&after).filter(|(a, b)| a != b).count() as u64;
+                same("class entries that differ", differing, joined.moved)?;
+                self.tally.largest_union = self.tally.largest_union.max(joined.moved);
+                Ok(None)
+            }
+            (Err(refusal), None) => {
+                let live = sizes.0.is_some() && sizes.1.is_some();
+                same("union's refusal", refusal, if live { Refusal::SameClass } else { Refusal::Dead })?;
+                Ok(Some(refusal))
+            }
+            (said, oracle) => Err(format!("union: archive {said:?}, oracle {oracle:?}")),
+        }
+    }
+
+    fn take_out(&mut self, call: &Call) -> Result<Option<Refusal>, String> {
+        let dead = Refusal::Dead;
+        match *call {
+            Call::RemoveElement(k) => {
+                let (key, ptr) = self.keys(k);
+                let said = self.port.remove_element(key);
+                let out = self.oracle.remove_element(ptr).allow().ok_or(dead);
+                same("removal", said.map(|out| (out.payload, out.last)), out)?;
+                same("overflow", said.is_ok_and(|out| out.overflow), false)?;
+                Ok(said.err())
+            }
+            Call::RemoveShared(k) => {
+                let (key, ptr) = self.keys(k);
+                let said = match self.fault {
+                    Fault::RunStays => {
+                        let value = self.port.get_shared(key);
+                        value.and_then(|value| self.port.remove_element(key).map(|out| (value, out.overflow)))
+                    }
+                    _ => self.port.remove_shared(key).map(|out| (out.value, out.overflow)),
+                };
+                same("removal of a run", said, self.oracle.remove_shared(ptr).allow().map(|value| (value, false)).ok_or(dead))?;
+                Ok(said.err())
+            }
+            Call::Drain(k) => {
+                let (key, ptr) = self.keys(k);
+                let said = self.port.drain(key);
+                let wanted = self.oracle.drain_surject(ptr).map(|drain| drain.map(|o| o.allow()).collect::<Vec<_>>());
+                match (&said, wanted) {
+                    (Ok(records), Some(wanted)) => self.same_drain(records, &wanted)?,
+                    (Err(Refusal::Dead), None) => (),
+                    (_, wanted) => return Err(format!("drain: archive {said:?}, oracle {wanted:?}")),
+                }
+                Ok(said.err())
+            }
+            _ => unreachable!("nothing is taken out"),
+        }
+    }
+
+    /// The records of one run: the same frames in the same order, the shared value with the last one alone.
+    fn same_drain(&self, records: &[Record], wanted: &[(P0, u64, Option<u64>)]) -> Result<(), String> {
+        let ring = records.iter().map(|record| self.name_of_key(record.key)).collect();
+        let other = wanted.iter().map(|(ptr, _, _)| self.name_of_ptr(*ptr)).collect();
+        same("drained ring", self.as_compared(ring), self.as_compared(other))?;
+        for record in records {
+            same("drained payload", Some(record.payload), self.payload(self.name_of_key(record.key)))?;
+            same("overflow", record.overflow, false)?;
+        }
+        let values = |mut all: Vec<Option<u64>>| (all.pop(), all.iter().any(|value| value.is_some()));
+        let said = values(records.iter().map(|record| record.last).collect());
+        same("drained value", said, values(wanted.iter().map(|(_, _, value)| *value).collect()))
+    }
+
+    fn payload(&self, name: Name) -> Option<u64> {
+        self.frames.get(name).copied().flatten().map(|frame| frame.payload)
+    }
+
+    fn on_all(&mut self, call: &Call) -> Result<Option<Refusal>, String> {
+        match *call {
+            Call::DrainAll => {
+                let said = self.port.drain_all().map_err(|refusal| refusal.to_string())?;
+                let wanted: Vec<_> = self.oracle.drain_combined().map(|o| o.allow()).collect();
+                self.same_runs(&said, &wanted)?;
+            }
+            Call::Clear => {
+                same("clear", self.port.clear(), Ok(false))?;
+                self.oracle.clear().allow();
+            }
+            Call::Compress(reset) => {
+                same("compression", self.port.compress_canonical(reset), Ok(false))?;
+                self.oracle.compress_canonical(reset).allow();
+                self.relearn()?;
+            }
+            _ => unreachable!("not a call on all"),
+        }
+        Ok(None)
+    }
+
+    /// Drain-all is compared run by run: slot numbers, and so the order of runs and where each begins, may differ.
+    fn same_runs(&self, said: &[Record], wanted: &[(P0, u64, Option<u64>)]) -> Result<(), String> {
+        let port = said.iter().map(|record| (self.name_of_key(record.key), record.payload, record.last)).collect::<Vec<_>>();
+        let oracle = wanted.iter().map(|(ptr, t, s)| (self.name_of_ptr(*ptr), *t, *s)).collect::<Vec<_>>();
+        same("overflow", said.iter().any(|record| record.overflow), false)?;
+        same("drained runs", self.runs(&port), self.runs(&oracle))
+    }
+
+    /// Runs with their values, each ring begun at its least name, in the order of these.
+    fn runs(&self, drained: &[(Name, u64, Option<u64>)]) -> Vec<(Vec<(Name, u64)>, u64)> {
+        let mut runs = vec![];
+        for run in drained.split_inclusive(|(_, _, value)| value.is_some()) {
+            let mut ring: Vec<(Name, u64)> = run.iter().map(|(name, payload, _)| (*name, *payload)).collect();
+            let least = ring.iter().enumerate().min_by_key(|(_, frame)| **frame).map_or(0, |(at, _)| at);
+            ring.rotate_left(least);
+            if !self.ordered {
+                ring.sort_unstable();
+            }
+            runs.push((ring, run.last().unwrap().2.unwrap_or(u64::MAX)));
+        }
+        runs.sort_unstable();
+        runs
+    }
+
+    /// After compression every frame has a new key, known by its payload. Keys from before are not handed in again.
+    fn relearn(&mut self) -> Result<(), String> {
+        let generation = self.port.generation();
+        let rows: Vec<(u64, Key)> =
+            self.port.elems().chunks(5).zip(1..).filter(|(row, _)| row[0] != 0).map(|(row, slot)| (row[1], Key::new(slot, row[0]))).collect();
+        if rows.iter().any(|(_, key)| key.generation() != generation) {
+            return Err("compression left an old generation".into());
+        }
+        let ptrs: Vec<(u64, P0)> = self.oracle.iter_combined().map(|(p, t, _)| (*t, p)).collect();
+        same("frames after compression", rows.len(), ptrs.len())?;
+        let (rows, ptrs) = (by_payload(rows)?, by_payload(ptrs)?);
+        let old = std::mem::take(&mut self.frames);
+        self.frames = vec![None; old.len()];
+        self.forget();
+        for (name, frame) in old.into_iter().enumerate() {
+            let Some(payload) = frame.map(|frame| frame.payload) else { continue };
+            match (rows.get(&payload), ptrs.get(&payload)) {
+                (Some(key), Some(ptr)) => self.learn(name, *key, *ptr, payload)?,
+                (None, None) => (),
+                (key, ptr) => return Err(format!("payload {payload}: archive {key:?}, oracle {ptr:?}")),
+            }
+        }
+        if self.fault == Fault::MapCrossed {
+            self.cross();
+        }
+        Ok(())
+    }
+
+    fn cross(&mut self) {
+        let live: Vec<Name> = self.live().collect();
+        if let [.., a, b] = live[..] {
+            let (first, second) = (self.frames[a].unwrap().key, self.frames[b].unwrap().key);
+            self.frames[a].as_mut().unwrap().key = second;
+            self.frames[b].as_mut().unwrap().key = first;
+            (self.by_key[second.slot() as usize], self.by_key[first.slot() as usize]) = (a, b);
+        }
+    }
+}
+
+/// Payloads are distinct.
+fn by_payload<K>(frames: Vec<(u64, K)>) -> Result<std::collections::HashMap<u64, K>, String> {
+    let count = frames.len();
+    let map: std::collections::HashMap<u64, K> = frames.into_iter().collect();
+    if map.len() == count { Ok(map) } else { Err("a payload is there twice".into()) }
+}
