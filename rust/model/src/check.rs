@@ -11,7 +11,7 @@ pub fn sound(head: &Head, elems: &[u64], shared: &[u64]) -> bool {
         && head.elems.extent <= head.elems.capacity
         && head.shared.extent <= head.shared.capacity
         && headers_ok(head, shared)
-        && elems[head.elems.extent as usize * FRAME..].iter().all(|&n| n == 0)
+        && zeros(&elems[head.elems.extent as usize * FRAME..])
         && chain_ok(&head.shared, shared, HEADER, NEXT_FREE)
         && chain_ok(&head.elems, elems, FRAME, NEXT)
         && rings_ok(head, elems, shared)
@@ -19,6 +19,11 @@ pub fn sound(head: &Head, elems: &[u64], shared: &[u64]) -> bool {
 
 fn in_range(generation: u64) -> bool {
     (1..=LAST_GENERATION).contains(&generation)
+}
+
+/// Several numbers at once, where a test of each would not be.
+fn zeros(table: &[u64]) -> bool {
+    table.iter().fold(0, |or, number| or | number) == 0
 }
 
 /// The zeros and the live number of the shared slots.
@@ -36,7 +41,7 @@ fn headers_ok(head: &Head, shared: &[u64]) -> bool {
             live += 1;
         }
     }
-    live == head.shared.live && past.iter().all(|&n| n == 0)
+    live == head.shared.live && zeros(past)
 }
 
 /// A free chain that does not end within as many steps as the extent meets some slot twice.
@@ -56,8 +61,16 @@ fn chain_ok(pool: &Pool, table: &[u64], width: usize, link: usize) -> bool {
     true
 }
 
+/// With few shared slots there are few marks to clear first.
 fn rings_ok(head: &Head, elems: &[u64], shared: &[u64]) -> bool {
-    let mut marked = [0u64; MOST_SLOTS as usize / 64];
+    if head.shared.extent <= 1_024 {
+        scan(head, elems, shared, &mut [0; 16])
+    } else {
+        scan(head, elems, shared, &mut [0; MOST_SLOTS as usize / 64])
+    }
+}
+
+fn scan(head: &Head, elems: &[u64], shared: &[u64], marked: &mut [u64]) -> bool {
     let (mut live, mut met, mut rings) = (0, 0, 0);
     for slot in 1..=head.elems.extent {
         let row = frame(elems, slot);

@@ -115,7 +115,7 @@ pub fn enter<T>(
 }
 
 /// The call on a sound state, its answer as the numbers of `out`.
-fn said(rows: &mut Rows, call: &Call, lent: &mut [u64]) -> Result<[u64; 4], Refusal> {
+pub fn said(rows: &mut Rows, call: &Call, lent: &mut [u64]) -> Result<[u64; 4], Refusal> {
     let one = |n: u64| [n, 0, 0, 0];
     let key = |k: Key| [k.slot, k.generation, 0, 0];
     Ok(match *call {

@@ -1,0 +1,126 @@
+//! `bench`: each call of the archive beside the plain Rust rows arena and the oracle. `bench door`: the soundness check and
+//! what a host call adds to it. All figures of a line are from the same rounds; ratios are what to read.
+
+mod measure;
+mod sides;
+
+use measure::{Batch, checks, least, single_calls, unions, whole_calls};
+use sides::Side::{self, Archive, Door, Oracle, Rows};
+use std::time::Duration;
+
+const SIZES: [usize; 3] = [512, 4_096, 65_536];
+
+/// A line: nanoseconds of each side, then ratios of pairs of them.
+fn line(batch: &Batch, n: usize, sides: &[Side], ratios: &[(usize, usize)], budget: Duration) -> Vec<f64> {
+    let times = least(batch, sides, budget);
+    print!("{:<26}{n:>7}", batch.name);
+    times.iter().for_each(|time| print!("{:>12}", shown(*time)));
+    ratios.iter().for_each(|(a, b)| print!("{:>10.2}", times[*a] / times[*b]));
+    println!();
+    times
+}
+
+fn shown(nanoseconds: f64) -> String {
+    if nanoseconds < 100.0 { format!("{nanoseconds:.1}") } else { format!("{nanoseconds:.0}") }
+}
+
+fn head(title: &str, columns: &[&str]) {
+    println!("\n{title}");
+    print!("{:<26}{:>7}", "", "slots");
+    for column in columns {
+        print!("{:>width$}", column, width = if column.contains('/') { 10 } else { 12 });
+    }
+    println!();
+}
+
+fn calls() {
+    let budget = Duration::from_millis(60);
+    head(
+        "Host calls, ns a call: shape, check and call. `rust` is the same in plain Rust.",
+        &["archive", "rust", "a/rust"],
+    );
+    for n in SIZES {
+        // a call takes as long as its check: few are enough
+        for batch in single_calls(n, 65_536 / n) {
+            line(&batch, n, &[Archive, Door], &[(0, 1)], budget);
+        }
+    }
+    head("Calls alone, ns a call: rows arena in plain Rust, and the oracle.", &["rows", "oracle", "r/o"]);
+    for n in SIZES {
+        for batch in single_calls(n, 128) {
+            line(&batch, n, &[Rows, Oracle], &[(0, 1)], budget);
+        }
+        line(&unions(n), n, &[Rows, Oracle], &[(0, 1)], budget);
+    }
+    head(
+        "Whole tables, ns a frame. `rust` has the check too, `rows` and the oracle have not.",
+        &["archive", "rust", "rows", "oracle", "a/rust", "a/rows", "a/o"],
+    );
+    for n in SIZES {
+        for batch in whole_calls(n) {
+            line(&batch, n, &[Archive, Door, Rows, Oracle], &[(0, 1), (0, 2), (0, 3)], budget);
+        }
+    }
+    let n = SIZES[0];
+    line(&unions(n), n, &[Archive, Door, Rows, Oracle], &[(0, 1), (0, 2), (0, 3)], 8 * budget);
+}
+
+fn door() {
+    let budget = Duration::from_millis(150);
+    head("The check, ns: the same algorithm in plain Rust at -O.", &["archive", "rust", "a/rust"]);
+    let mut per_slot = vec![];
+    for n in [4, 512, 4_096, 65_536] {
+        for batch in checks(n) {
+            let times = line(&batch, n, &[Archive, Door], &[(0, 1)], budget);
+            per_slot.push((batch.name, n, times[0] / n as f64));
+        }
+    }
+    println!("\nns a slot as the tables grow");
+    for (name, n, time) in per_slot.iter().filter(|(name, ..)| name.contains("ring")) {
+        println!("{name:<26}{n:>7}{time:>12.2}");
+    }
+    println!("\nWhat a call adds to its check, ns (4 slots, one frame)");
+    println!("{:<26}{:>12}{:>12}{:>14}{:>12}", "", "archive", "rust", "archive adds", "rust adds");
+    let bed = || sides::Bed::new(4, 1, 1);
+    let key = model::Key { slot: 1, generation: 1 };
+    let times = |call| least(&Batch { name: "", bed: bed(), calls: vec![call; 1], per: 1 }, &[Archive, Door], budget);
+    let many = |call| {
+        let batch = Batch { name: "", bed: bed(), calls: vec![call; 200], per: 200 };
+        least(&batch, &[Archive, Door], budget)
+    };
+    use model::door::Call;
+    let check = many(Call::Check);
+    for (name, call) in [("check", Call::Check), ("get", Call::Get(key)), ("set_shared", Call::SetShared(key, 1))] {
+        let t = many(call);
+        println!("{name:<26}{:>12.1}{:>12.1}{:>14.1}{:>12.1}", t[0], t[1], t[0] - check[0], t[1] - check[1]);
+    }
+    // these change the state, so each round makes one; the clock's own cost is in all of them
+    let check = times(Call::Check);
+    for (name, call) in [
+        ("insert_new, once", Call::InsertNew { payload: 1, value: 2 }),
+        ("insert, once", Call::Insert(key, 1)),
+        ("remove_element, once", Call::RemoveElement(key)),
+        ("clear, once", Call::Clear),
+        ("compress_canonical, once", Call::CompressCanonical { reset: 0 }),
+    ] {
+        let t = times(call);
+        println!("{name:<26}{:>12.1}{:>12.1}{:>14.1}{:>12.1}", t[0], t[1], t[0] - check[0], t[1] - check[1]);
+    }
+}
+
+fn main() {
+    let word = std::env::args().nth(1);
+    let on = if cfg!(feature = "mock") { "the MOCK: the figures of `archive` say nothing" } else { "target/staticlib/libhost.a" };
+    println!("archive: {on}");
+    match word.as_deref() {
+        None => {
+            calls();
+            door();
+        }
+        Some("door") => door(),
+        Some(_) => {
+            eprintln!("usage: bench [door]");
+            std::process::exit(2);
+        }
+    }
+}

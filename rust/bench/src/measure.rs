@@ -1,0 +1,145 @@
+//! Times: the least of many rounds, the sides in turn within each round, so that all see the same machine.
+
+use crate::sides::{Bed, Side};
+use model::door::Call;
+use model::{FRAME, Key};
+use std::time::{Duration, Instant};
+
+/// Calls that are timed together, on a state to which they are made one after another.
+pub struct Batch {
+    pub name: &'static str,
+    pub bed: Bed,
+    pub calls: Vec<Call>,
+    /// What one time is divided by: the calls, or the frames that one call goes through.
+    pub per: usize,
+}
+
+/// Nanoseconds for each side.
+pub fn least(batch: &Batch, sides: &[Side], budget: Duration) -> Vec<f64> {
+    let mut best = vec![f64::MAX; sides.len()];
+    let mut bed = batch.bed.restored();
+    let start = Instant::now();
+    let mut rounds = 0;
+    while rounds < 12 || start.elapsed() < budget && rounds < 2_000 {
+        // who comes first changes, since what a side leaves in the caches helps the next
+        for at in (0..sides.len()).map(|i| (i + rounds) % sides.len()) {
+            let (best, side) = (&mut best[at], sides[at]);
+            bed.restore(&batch.bed, side);
+            let now = Instant::now();
+            bed.make(side, &batch.calls);
+            *best = best.min(now.elapsed().as_nanos() as f64 / batch.per as f64);
+        }
+        rounds += 1;
+    }
+    best
+}
+
+fn keys(bed: &Bed) -> Vec<Key> {
+    bed.host.keys()
+}
+
+/// One batch for each call on a single frame or a small ring: half of the slots in rings of four.
+pub fn single_calls(n: usize, most: usize) -> Vec<Batch> {
+    let bed = Bed::new(n, n / 2, 4);
+    let keys = keys(&bed);
+    let runs = keys.len() / 4;
+    let count = most.min(runs / 2).max(1);
+    // frames of different runs, spread over the table
+    let at = |i: usize| keys[(i * 37) % runs];
+    let one = |name, call: &dyn Fn(usize) -> Call, count: usize| Batch {
+        name,
+        bed: bed.restored(),
+        calls: (0..count).map(call).collect(),
+        per: count,
+    };
+    let batch = |name, call: &dyn Fn(usize) -> Call| one(name, call, count);
+    let pair = |i: usize| (keys[2 * i % runs], keys[(2 * i + 1) % runs + runs]);
+    let four = |i: usize| [0, 1, 2, 3].map(|j| keys[(4 * i + j) % runs]);
+    let payload = |i: usize| 1_000 + i as u64;
+    vec![
+        batch("len_surject", &|i| Call::LenSurject(at(i))),
+        batch("in_same_surject", &|i| Call::InSameSurject(at(i), at(i + 1))),
+        batch("get", &|i| Call::Get(at(i))),
+        batch("get_shared", &|i| Call::GetShared(at(i))),
+        batch("set", &|i| Call::Set(at(i), payload(i))),
+        batch("set_shared", &|i| Call::SetShared(at(i), payload(i))),
+        batch("exchange_shared4", &|i| Call::ExchangeShared4(four(i), [1, 2, 3, 4])),
+        batch("insert_new", &|i| Call::InsertNew { payload: payload(i), value: 7 }),
+        batch("insert", &|i| Call::Insert(at(i), payload(i))),
+        one("union (4 + 4)", &|i| Call::Union(pair(i).0, pair(i).1), count.min(runs / 4).max(1)),
+        batch("remove_element", &|i| Call::RemoveElement(keys[i % runs])),
+        batch("remove_shared (4)", &|i| Call::RemoveShared(keys[i % runs])),
+        batch("list (4)", &|i| Call::List(at(i))),
+        batch("drain (4)", &|i| Call::Drain(keys[i % runs])),
+    ]
+}
+
+/// One batch for each call that goes through a whole table: times are for each frame.
+pub fn whole_calls(n: usize) -> Vec<Batch> {
+    let rings = || Bed::new(n, n, 4);
+    let ring = || Bed::new(n, n, n);
+    let first = Key { slot: 1, generation: 1 };
+    let batch = |name, bed: Bed, call| Batch { name, bed, calls: vec![call], per: n };
+    vec![
+        batch("list, one ring", ring(), Call::List(first)),
+        batch("drain, one ring", ring(), Call::Drain(first)),
+        batch("remove_shared, one ring", ring(), Call::RemoveShared(first)),
+        batch("drain_all", rings(), Call::DrainAll),
+        batch("clear", rings(), Call::Clear),
+        batch("compress_canonical", rings(), Call::CompressCanonical { reset: 0 }),
+    ]
+}
+
+/// Runs of one joined two by two, four by four and so on, to one ring: times are for each union.
+pub fn unions(n: usize) -> Batch {
+    let bed = Bed::new(n, n, 1);
+    let key = |i: usize| Key { slot: i as u64 + 1, generation: 1 };
+    let mut calls = vec![];
+    let mut gap = 1;
+    while gap < n {
+        calls.extend((0..n - gap).step_by(2 * gap).map(|i| Call::Union(key(i), key(i + gap))));
+        gap *= 2;
+    }
+    let per = calls.len();
+    Batch { name: "union to one ring", bed, calls, per }
+}
+
+/// The check on full tables: rings of one, rings of four, one ring, in order and shuffled; and fresh tables.
+pub fn checks(n: usize) -> Vec<Batch> {
+    let batch = |name, bed, shuffled: bool| {
+        // a check of few slots takes about as long as reading the clock
+        let count = 2_048_usize.div_ceil(n);
+        let mut batch = Batch { name, bed, calls: vec![Call::Check; count], per: count };
+        if shuffled {
+            shuffle(&mut batch.bed);
+        }
+        batch
+    };
+    vec![
+        batch("fresh", Bed::new(n, 0, 1), false),
+        batch("rings of one", Bed::new(n, n, 1), false),
+        batch("rings of one, shuffled", Bed::new(n, n, 1), true),
+        batch("rings of four, shuffled", Bed::new(n, n, 4), true),
+        batch("one ring", Bed::new(n, n, n), false),
+        batch("one ring, shuffled", Bed::new(n, n, n), true),
+    ]
+}
+
+/// The same rings over slots in another order. Only the numbers are changed: the oracle has no check to time.
+fn shuffle(bed: &mut Bed) {
+    let n = bed.host.head[1] as usize;
+    let mut to: Vec<usize> = (0..n).collect();
+    let mut seed = 88_172_645_463_325_252u64;
+    for i in (1..n).rev() {
+        seed ^= seed << 13;
+        seed ^= seed >> 7;
+        seed ^= seed << 17;
+        to.swap(i, seed as usize % (i + 1));
+    }
+    let old = bed.host.elems.clone();
+    let moved = |slot: u64| to[slot as usize - 1] as u64 + 1;
+    for (row, &at) in old.chunks(FRAME).zip(&to) {
+        let new = [row[0], row[1], row[2], moved(row[3]), moved(row[4])];
+        bed.host.elems[at * FRAME..][..FRAME].copy_from_slice(&new);
+    }
+}

@@ -1,0 +1,178 @@
+//! The sides that are timed. All are given the same calls on the same state.
+
+use archive::Host;
+use model::door::{self, Call};
+use model::{Head, Key, Rows, check};
+use std::hint::black_box;
+use std::num::{NonZeroU32, NonZeroUsize};
+use triple_arena::traits::*;
+use triple_arena::{SurjectArena, ptr_struct};
+
+ptr_struct!(P0);
+
+pub type Oracle = SurjectArena<P0, u64, u64>;
+
+#[derive(Clone, Copy, PartialEq, Eq)]
+pub enum Side {
+    /// A call of the archive, with its check.
+    Archive,
+    /// The same in plain Rust.
+    Door,
+    /// The call alone on a rows arena in plain Rust.
+    Rows,
+    /// The call on the oracle, which checks nothing.
+    Oracle,
+}
+
+/// A state on which calls are timed, and the buffer that some of them need.
+pub struct Bed {
+    pub host: Host,
+    pub oracle: Oracle,
+    pub lent: Vec<u64>,
+}
+
+impl Bed {
+    /// Runs of `ring` frames each, the frames of a ring far apart, in tables of capacity `n`, so that `live` frames are there.
+    pub fn new(n: usize, live: usize, ring: usize) -> Bed {
+        let mut host = Host::fresh(n as u64, n as u64);
+        let mut oracle = Oracle::with_min_capacity_separated(n, n).unwrap();
+        let mut head = Head::of(&host.head);
+        let mut rows = Rows { head: &mut head, elems: &mut host.elems, shared: &mut host.shared };
+        let mut last = vec![];
+        for i in 0..live / ring {
+            let payload = i as u64;
+            last.push(rows.insert_new(payload, payload).unwrap());
+            oracle.insert_surject_within_capacity(payload, payload).unwrap();
+        }
+        for _ in 1..ring {
+            for key in &mut last {
+                let at = ptr(*key);
+                *key = rows.insert(*key, key.slot).unwrap();
+                oracle.insert_within_capacity(at, key.slot).unwrap();
+            }
+        }
+        host.head = head.numbers();
+        Bed { host, oracle, lent: vec![0; 6 * n] }
+    }
+
+    pub fn restored(&self) -> Bed {
+        Bed { host: self.host.clone(), oracle: self.oracle.clone(), lent: self.lent.clone() }
+    }
+
+    /// Puts the numbers back as they were, in the same memory.
+    pub fn restore(&mut self, from: &Bed, side: Side) {
+        if side == Side::Oracle {
+            self.oracle = from.oracle.clone();
+        } else {
+            self.host.head = from.host.head;
+            self.host.elems.copy_from_slice(&from.host.elems);
+            self.host.shared.copy_from_slice(&from.host.shared);
+        }
+    }
+
+    /// Makes the calls. Every one must be accepted.
+    pub fn make(&mut self, side: Side, calls: &[Call]) {
+        let Host { head, elems, shared } = &mut self.host;
+        let (lent, mut out) = (&mut self.lent[..], [0; 4]);
+        match side {
+            Side::Archive => {
+                for call in calls {
+                    assert_eq!(archive::run(head, elems, shared, black_box(call), lent, &mut out), 0);
+                }
+            }
+            Side::Door => {
+                for call in calls {
+                    assert_eq!(door::run(check::sound, head, elems, shared, black_box(call), lent, &mut out), 0);
+                }
+            }
+            Side::Rows => {
+                let mut next = Head::of(head);
+                let mut rows = Rows { head: &mut next, elems, shared };
+                for call in calls {
+                    assert!(black_box(step(&mut rows, black_box(call), lent)).is_some());
+                }
+                *head = next.numbers();
+            }
+            Side::Oracle => {
+                for call in calls {
+                    assert!(black_box(ask(&mut self.oracle, black_box(call), lent)).is_some());
+                }
+            }
+        }
+        black_box(out);
+    }
+}
+
+/// The oracle has the same slots; its generations begin with 2.
+fn ptr(key: Key) -> P0 {
+    P0::_from_raw(NonZeroUsize::new(key.slot as usize).unwrap(), NonZeroU32::new(key.generation as u32 + 1).unwrap())
+}
+
+/// The call on the rows arena, with as much of the answer as the oracle gives.
+fn step(rows: &mut Rows, call: &Call, lent: &mut [u64]) -> Option<u64> {
+    match *call {
+        Call::LenSurject(k) => rows.len_surject(k).ok(),
+        Call::InSameSurject(j, k) => rows.in_same_surject(j, k).ok().map(u64::from),
+        Call::Get(k) => rows.get(k).ok(),
+        Call::GetShared(k) => rows.get_shared(k).ok(),
+        Call::Set(k, payload) => rows.set(k, payload).ok(),
+        Call::SetShared(k, value) => rows.set_shared(k, value).ok(),
+        Call::ExchangeShared4(keys, values) => rows.exchange_shared4(keys, values).ok().map(|old| old[0]),
+        Call::InsertNew { payload, value } => rows.insert_new(payload, value).ok().map(|key| key.slot),
+        Call::Insert(k, payload) => rows.insert(k, payload).ok().map(|key| key.slot),
+        Call::Union(j, k) => rows.union(j, k).ok().map(|joined| joined.was),
+        Call::RemoveElement(k) => rows.remove_element(k).ok().map(|out| out.payload),
+        Call::RemoveShared(k) => rows.remove_shared(k).ok().map(|(value, _)| value),
+        Call::List(k) => rows.list(k, lent).ok(),
+        Call::Drain(k) => rows.drain(k, lent).ok(),
+        Call::DrainAll => rows.drain_all(lent).ok(),
+        Call::Clear => Some(u64::from(rows.clear())),
+        Call::CompressCanonical { reset } => rows.compress_canonical(reset != 0, lent).ok().map(u64::from),
+        Call::Fresh { .. } | Call::Check => None,
+    }
+}
+
+/// The call on the oracle, with as much of the answer as it has.
+fn ask(a: &mut Oracle, call: &Call, lent: &mut [u64]) -> Option<u64> {
+    Some(match *call {
+        Call::LenSurject(k) => a.len_surject(ptr(k))?.get() as u64,
+        Call::InSameSurject(j, k) => a.in_same_surject(ptr(j), ptr(k))? as u64,
+        Call::Get(k) => *a.get(ptr(k))?,
+        Call::GetShared(k) => *a.get_shared(ptr(k))?,
+        Call::Set(k, payload) => std::mem::replace(a.get_mut(ptr(k))?, payload),
+        Call::SetShared(k, value) => std::mem::replace(a.get_shared_mut(ptr(k))?, value),
+        Call::ExchangeShared4(keys, values) => {
+            let old = a.get_disjoint_shared_mut(keys.map(ptr)).ok()?;
+            let mut values = values.into_iter();
+            old.map(|s| std::mem::replace(s, values.next().unwrap()))[0]
+        }
+        Call::InsertNew { payload, value } => a.insert_surject_within_capacity(payload, value).ok()?.inx().get() as u64,
+        Call::Insert(k, payload) => a.insert_within_capacity(ptr(k), payload).ok()?.inx().get() as u64,
+        Call::Union(j, k) => a.union(ptr(j), ptr(k))?.0,
+        Call::RemoveElement(k) => a.remove_element(ptr(k)).allow()?.0,
+        Call::RemoveShared(k) => a.remove_shared(ptr(k)).allow()?,
+        Call::List(k) => {
+            let places = lent.chunks_exact_mut(2).zip(a.iter_surject(ptr(k))?);
+            places.map(|(place, (p, _, _))| place.copy_from_slice(&[p.inx().get() as u64, p.generation().get() as u64])).count() as u64
+        }
+        Call::Drain(k) => {
+            let records = lent.chunks_exact_mut(6).zip(a.drain_surject(ptr(k))?);
+            records.map(|(record, o)| note(record, o.allow())).count() as u64
+        }
+        Call::DrainAll => lent.chunks_exact_mut(6).zip(a.drain_combined()).map(|(record, o)| note(record, o.allow())).count() as u64,
+        Call::Clear => {
+            a.clear().allow();
+            0
+        }
+        Call::CompressCanonical { reset } => {
+            a.compress_canonical(reset != 0).allow();
+            0
+        }
+        Call::Fresh { .. } | Call::Check => return None,
+    })
+}
+
+fn note(record: &mut [u64], (p, t, s): (P0, u64, Option<u64>)) {
+    record[..3].copy_from_slice(&[p.inx().get() as u64, p.generation().get() as u64, t]);
+    record[3..5].copy_from_slice(&[s.is_some() as u64, s.unwrap_or(0)]);
+}
