@@ -1,1 +1,3 @@
 pub mod Kit
+pub mod Joining
+pub mod Leaving

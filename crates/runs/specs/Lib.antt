@@ -1,2 +1,3 @@
 -- What the calls' inner steps ask and answer.
 pub mod Asked
+pub mod Answered
