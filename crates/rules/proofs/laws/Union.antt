@@ -1,27 +1,21 @@
 -- Union: the columns after it, and that it keeps a sound state. The class of `a` is kept.
-use mathlib.Core.Path.{_≡_, refl, sym, ap, _∙_, fun-ext}
+use mathlib.Core.Path.{_≡_, refl, sym, ap, _∙_}
 use mathlib.Core.Logic.{_≢_, _⊎_, inl, inr}
-use mathlib.Core.List.{_∷_}
 use Prim.Native.Nat.{ℕ, _+_}
 use native.Mathlib.Omega.{arith}
 use native.Mathlib.Decide.{ℕ-discrete}
-use Rattle.rules.specs.Tables.{frameWidth, classOf, State, sizeAt}
+use Rattle.rules.specs.Tables.{frameWidth, State, sizeAt}
 use Rattle.rules.specs.Slots.{freed, freeSlot, freeShared}
 use Rattle.rules.specs.Runs.{rewritten, joined}
 use Rattle.rules.specs.Calls.{Ready}
-use Rattle.rules.proofs.laws.Lists.{all-map, out-by}
-use Rattle.rules.proofs.laws.Columns.{upd, upd-same, upd-at, upd-other, cols, length-put, length-row}
+use Rattle.rules.proofs.laws.Columns.{upd, upd-same, upd-other, cols, length-put, length-row}
 use Rattle.rules.proofs.laws.Pools.{relink, keep, free}
 use Rattle.rules.proofs.laws.Working.{View, view, view-path, Frame, Ring, Working, turn}
-use Rattle.rules.proofs.laws.Soundness.{shaped-of, ring-at}
+use Rattle.rules.proofs.laws.Soundness.{shaped-of}
 use Rattle.rules.proofs.laws.Safe.{working}
 use Rattle.rules.proofs.laws.Stored.{Stored, Still, ready-still, live-stored}
-use Rattle.rules.proofs.laws.Rewritten.{Rewritten, walk-rewritten, length-rewritten, length-exchanged, crossed}
+use Rattle.rules.proofs.laws.Rewritten.{length-rewritten, length-exchanged, crossed, recolour, ring-rewritten, rewritten-class}
 use Rattle.rules.proofs.laws.Links.{Which, one, two, neither, which, live-ne, ring-frame, Exchanged, links-exchange, ring-join}
-
--- the class `d` becomes `c`
-unfoldable pub recolour : ℕ → ℕ → (ℕ → ℕ) → ℕ → ℕ
-recolour d c cl s = upd (λ k. k) d c (cl s)
 
 unfoldable pub joinedV : View → ℕ → ℕ → View
 joinedV v a b = record {
@@ -154,48 +148,22 @@ pub joined-still : (st : State) (a b : ℕ) → Still st (joined st a b)
 unfolding joined freeShared freeSlot freed
 joined-still st a b = record { elems = refl; shared = refl; elems-long = simp (length-exchanged, length-rewritten); shared-long = simp (length-row, length-put) }
 
-module _ (st : State) (R : Ready st) where
-  -- the class entries of the whole ring of `b` become `c`, and no other
-  pub ring-rewritten : (b c : ℕ) (hb : view st .gen b ≢ 0) → Rewritten (st .elems) (rewritten (sizeAt st b) (st .elems) b c) c (b ∷ ring-at (view st) (working st R) b hb .rest)
-  ring-rewritten b c hb =
-      let r = ring-at (view st) (working st R) b hb in
-      let F = shaped-of st (R .shape) .elems in
-      rw (r .sized) at (walk-rewritten (b ∷ r .rest) (st .elems) b b c (refl, r .round) (r .once) (all-map (λ s f. live-stored F (working st R .elems) s (f .live)) (b ∷ r .rest) (r .frames)))
+module _ (st : State) (R : Ready st) (a b : ℕ) (ha : view st .gen a ≢ 0) (hb : view st .gen b ≢ 0) where
+  pub joined-view : view (joined st a b) ≡ joinedV (view st) a b
+  unfolding joined joinedV freeShared freeSlot
+  joined-view =
+      let H = shaped-of st (R .shape) in
+      let W = working st R in
+      let e = rewritten (sizeAt st b) (st .elems) b (view st .class a) in
+      let r = ring-rewritten st R b (view st .class a) hb in
+      let in-e : (s : ℕ) → view st .gen s ≢ 0 → Stored frameWidth e s = λ s h. let q = live-stored (H .elems) (W .elems) s h in record { low = q .low; high = rw (r .long) (q .high) } in
+      let x = crossed e (view st .next) (r .next) a b (in-e a ha) (in-e b hb) (in-e (view st .next a) (W .links .next-live a ha)) (in-e (view st .next b) (W .links .next-live b hb)) in
+      let ca = live-stored (H .shared) (W .shared) (view st .class a) (W .class-live a ha) in
+      let cb = live-stored (H .shared) (W .shared) (view st .class b) (W .class-live b hb) in
+      view-path _ _ refl
+      (x .gen ∙ r .gen) (x .pay ∙ r .pay) (x .class ∙ rewritten-class st R b (view st .class a) hb)
+      (x .prev ∙ ap (λ (f : ℕ → ℕ). upd (upd f (view st .next b) a) (view st .next a) b) (r .prev)) (x .next)
+      (search cols) (search cols) (search cols)
 
-  pub rewritten-class : (b c : ℕ) → view st .gen b ≢ 0 → classOf (rewritten (sizeAt st b) (st .elems) b c) ≡ recolour (view st .class b) c (view st .class)
-  unfolding recolour
-  rewritten-class b c hb = fun-ext λ s. go s (ℕ-discrete (view st .class s) (view st .class b))
-    where
-      W : Working (view st)
-      W = working st R
-
-      r : Ring (view st .gen) (view st .class) (view st .next) (view st .class b) b (view st .count (view st .class b))
-      r = ring-at (view st) W b hb
-
-      live : (s : ℕ) → view st .class s ≡ view st .class b → view st .gen s ≢ 0
-      live s e h = live-ne (view st .count) (W .class-live b hb) (W .shared .none) (sym e ∙ W .zeros s h .1)
-
-      go : (s : ℕ) → Dec (view st .class s ≡ view st .class b) → classOf (rewritten (sizeAt st b) (st .elems) b c) s ≡ upd (λ k. k) (view st .class b) c (view st .class s)
-      go s (yes e) = ring-rewritten b c hb .hit s (r .whole s (record { live = live s e; mine = e })) ∙ sym (upd-at (λ k. k) (view st .class b) c (view st .class s) e)
-      go s (no e) = ring-rewritten b c hb .miss s (out-by (Frame (view st .gen) (view st .class) (view st .class b)) s (b ∷ r .rest) (λ f. e (f .mine)) (r .frames))
-          ∙ sym (upd-other (λ k. k) (view st .class b) c (view st .class s) e)
-
-  module _ (a b : ℕ) (ha : view st .gen a ≢ 0) (hb : view st .gen b ≢ 0) where
-    pub joined-view : view (joined st a b) ≡ joinedV (view st) a b
-    unfolding joined joinedV freeShared freeSlot
-    joined-view =
-        let H = shaped-of st (R .shape) in
-        let W = working st R in
-        let e = rewritten (sizeAt st b) (st .elems) b (view st .class a) in
-        let r = ring-rewritten b (view st .class a) hb in
-        let in-e : (s : ℕ) → view st .gen s ≢ 0 → Stored frameWidth e s = λ s h. let q = live-stored (H .elems) (W .elems) s h in record { low = q .low; high = rw (r .long) (q .high) } in
-        let x = crossed e (view st .next) (r .next) a b (in-e a ha) (in-e b hb) (in-e (view st .next a) (W .links .next-live a ha)) (in-e (view st .next b) (W .links .next-live b hb)) in
-        let ca = live-stored (H .shared) (W .shared) (view st .class a) (W .class-live a ha) in
-        let cb = live-stored (H .shared) (W .shared) (view st .class b) (W .class-live b hb) in
-        view-path _ _ refl
-        (x .gen ∙ r .gen) (x .pay ∙ r .pay) (x .class ∙ rewritten-class b (view st .class a) hb)
-        (x .prev ∙ ap (λ (f : ℕ → ℕ). upd (upd f (view st .next b) a) (view st .next a) b) (r .prev)) (x .next)
-        (search cols) (search cols) (search cols)
-
-    pub joined-keeps : view st .class a ≢ view st .class b → Ready (joined st a b)
-    joined-keeps differ = ready-still R (joined-still st a b) (rw joined-view (joined-sound (view st) a b (working st R) ha hb differ))
+  pub joined-keeps : view st .class a ≢ view st .class b → Ready (joined st a b)
+  joined-keeps differ = ready-still R (joined-still st a b) (rw joined-view (joined-sound (view st) a b (working st R) ha hb differ))
