@@ -58,6 +58,12 @@ pub length-decimal : (n : ℕ) → length (decimal n) ≤ 20
 unfolding decimal
 length-decimal n = length-digits 20 n
 
+-- so there is room for one more digit
+pub decimal-short : (n : ℕ) → 10 ≤ n → n < 10 ^ 20 → length (decimal (n / 10)) < 20
+decimal-short n h l =
+    let e : length (decimal n) ≡ length (decimal (n / 10)) + 1 = ap length (decimal-last n h l) ∙ simp length-append in
+    omega (arith, length-decimal n)
+
 -- a digit more
 pub decimal-more : (n d : ℕ) → 1 ≤ n → d ≤ 9 → n * 10 + d < 10 ^ 20 → decimal (n * 10 + d) ≡ decimal n ++ (48 + d) ∷ []
 decimal-more n d h l m =

@@ -3,3 +3,4 @@ pub mod Puts
 pub mod Pieces
 pub mod Reading
 pub mod Letters
+pub mod Texts

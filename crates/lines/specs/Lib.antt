@@ -2,3 +2,4 @@
 pub mod Put
 pub mod Words
 pub mod Lines
+pub mod Texts

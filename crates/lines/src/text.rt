@@ -18,8 +18,9 @@ pub fn put_text(out: &mut [u8], at: usize, text: &[u8]) -> usize
 
 // Script: decimal without leading zeros.
 pub fn put_decimal(out: &mut [u8], at: usize, n: u64) -> usize
-    requires { ⌜ at + length (decimal n) ≤ length (now out) ⌝ }
+    requires { ⌜ at + 20 ≤ length (now out) ⌝ }
     ensures { λ r. ⌜ Put (now (out .entry)) at (decimal n) (now (out .exit)) r ⌝ }
+    ensures { λ r. ⌜ r ≤ at + 20 ⌝ }
 {
     if n < 10 {
         out[at] = 48 + n as u8;

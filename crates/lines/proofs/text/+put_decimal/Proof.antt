@@ -1,10 +1,6 @@
-use Prim.Native.Nat.{_+_, _/_}
-use mathlib.Core.Path.{_≡_, ap, _∙_}
 use borrow.Author.Needs.{needs}
 use native.Mathlib.Omega.{arith}
-use lib.ListN.{length, length-append}
-use Rattle.rules.specs.Script.{decimal}
-use Rattle.lines.proofs.Decimals.{decimal-one, decimal-last}
+use Rattle.lines.proofs.Decimals.{decimal-one, decimal-last, decimal-short}
 use Rattle.lines.proofs.Puts.{put-one, put-last}
 use Prim.Native.Nat.{ℕ, _<_}
 use borrow.Fn.Kinds.{In}
@@ -42,7 +38,7 @@ put-decimal-slice-write-out : (t : ℕ) → put-decimal-lts.Need-slice-write-out
   put-decimal-below t,
   put-decimal.Post,
 ) (put-decimal-at t) put-decimal.Post
-put-decimal-slice-write-out t c = let e = ap length (decimal-one (c .before .before .args .n) (c .if1 .taken)) in omega (arith, c .before .before .pre .1)
+put-decimal-slice-write-out t c = omega (arith, c .before .before .pre .1)
 
 put-decimal-add-result : (t : ℕ) → put-decimal-lts.Need-add-result (
   put-decimal-below t,
@@ -60,7 +56,7 @@ put-decimal-returns : (t : ℕ) → put-decimal-lts.Need-returns (
   put-decimal-below t,
   put-decimal.Post,
 ) (put-decimal-at t) put-decimal.Post
-put-decimal-returns t c = rw (decimal-one (c .before .before .args .n) (c .if1 .taken)) (put-one _ _ _)
+put-decimal-returns t c = (rw (decimal-one (c .before .before .args .n) (c .if1 .taken)) (put-one _ _ _), omega arith)
 
 put-decimal-put-decimal-requires : (t : ℕ) → put-decimal-lts.Need-put-decimal-requires (
   put-decimal-below t,
@@ -68,9 +64,7 @@ put-decimal-put-decimal-requires : (t : ℕ) → put-decimal-lts.Need-put-decima
 ) (put-decimal-at t) put-decimal.Post
 put-decimal-put-decimal-requires t c κs =
     let s = c .before .before .before in
-    let e = decimal-last (s .args .n) (omega arith) (omega (arith, s .fits .n)) in
-    let l : length (decimal (s .args .n)) ≡ length (decimal (s .args .n / 10)) + 1 = ap length e ∙ simp length-append in
-    (omega (arith, s .pre .0), omega (arith, s .pre .1))
+    (omega (arith, s .pre .0), s .pre .1)
 
 put-decimal-cast-out-2 : (t : ℕ) → put-decimal-lts.Need-cast-out-2 (
   put-decimal-below t,
@@ -90,9 +84,8 @@ put-decimal-slice-write-out-2 : (t : ℕ) → put-decimal-lts.Need-slice-write-o
 ) (put-decimal-at t) put-decimal.Post
 put-decimal-slice-write-out-2 t c =
     let s = c .before .before .before .before .before .before in
-    let e = decimal-last (s .args .n) (omega arith) (omega (arith, s .fits .n)) in
-    let l : length (decimal (s .args .n)) ≡ length (decimal (s .args .n / 10)) + 1 = ap length e ∙ simp length-append in
-    omega (arith, s .pre .1, c .before .before .put-decimal .ensures .past)
+    let l = decimal-short (s .args .n) (omega arith) (omega (arith, s .fits .n)) in
+    omega (arith, s .pre .1, c .before .before .put-decimal .ensures .0 .past)
 
 put-decimal-add-result-2 : (t : ℕ) → put-decimal-lts.Need-add-result-2 (
   put-decimal-below t,
@@ -100,9 +93,8 @@ put-decimal-add-result-2 : (t : ℕ) → put-decimal-lts.Need-add-result-2 (
 ) (put-decimal-at t) put-decimal.Post
 put-decimal-add-result-2 t c =
     let s = c .before .before .before .before .before .before in
-    let e = decimal-last (s .args .n) (omega arith) (omega (arith, s .fits .n)) in
-    let l : length (decimal (s .args .n)) ≡ length (decimal (s .args .n / 10)) + 1 = ap length e ∙ simp length-append in
-    omega (arith, s .pre .1, c .before .before .put-decimal .ensures .past)
+    let l = decimal-short (s .args .n) (omega arith) (omega (arith, s .fits .n)) in
+    omega (arith, s .pre .1, c .before .before .put-decimal .ensures .0 .past)
 
 put-decimal-same-length-2 : (t : ℕ) → put-decimal-lts.Need-same-length-2 (
   put-decimal-below t,
@@ -117,7 +109,8 @@ put-decimal-returns-2 : (t : ℕ) → put-decimal-lts.Need-returns-2 (
 put-decimal-returns-2 t c =
     let s = c .before .before .before .before .before .before in
     let e = decimal-last (s .args .n) (omega arith) (omega (arith, s .fits .n)) in
-    rw e (put-last _ _ _ _ _ _ (c .before .before .put-decimal .ensures))
+    let l = decimal-short (s .args .n) (omega arith) (omega (arith, s .fits .n)) in
+    (rw e (put-last _ _ _ _ _ _ (c .before .before .put-decimal .ensures .0)), omega (arith, c .before .before .put-decimal .ensures .0 .past))
 
 pub +put-decimal-spec : {M : Type 1} → statement M
 +put-decimal-spec = close μ-put-decimal λ t. put-decimal-lts.spec (
