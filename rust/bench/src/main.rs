@@ -1,6 +1,8 @@
 //! `bench`: each call of the archive beside the plain Rust rows arena and the oracle. `bench door`: the soundness check and
-//! what a host call adds to it. All figures of a line are from the same rounds; ratios are what to read.
+//! what a host call adds to it. `bench count`: instructions. All times of a line are from the same rounds; ratios are what
+//! to read.
 
+mod count;
 mod measure;
 mod sides;
 
@@ -109,17 +111,24 @@ fn door() {
 }
 
 fn main() {
-    let word = std::env::args().nth(1);
+    let words: Vec<String> = std::env::args().skip(1).collect();
+    if let [word, batch, side] = &words[..]
+        && word == "once"
+    {
+        return count::once(batch.parse().unwrap(), side.parse().unwrap());
+    }
     let on = if cfg!(feature = "mock") { "the MOCK: the figures of `archive` say nothing" } else { "target/staticlib/libhost.a" };
     println!("archive: {on}");
-    match word.as_deref() {
+    match words.first().map(String::as_str) {
         None => {
             calls();
             door();
+            count::table();
         }
         Some("door") => door(),
+        Some("count") => count::table(),
         Some(_) => {
-            eprintln!("usage: bench [door]");
+            eprintln!("usage: bench [door|count]");
             std::process::exit(2);
         }
     }

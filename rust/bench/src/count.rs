@@ -1,0 +1,81 @@
+//! Instructions by callgrind, where time is too noisy: they are the same in every run, so a call's own are its host call's
+//! less the check's.
+
+use crate::measure::{Batch, checks, single_calls};
+use crate::sides::{Bed, Side};
+use model::door::Call;
+use std::process::Command;
+
+/// What is counted is what runs in here.
+#[unsafe(no_mangle)]
+#[inline(never)]
+fn bench_counted(bed: &mut Bed, side: Side, calls: &[Call]) {
+    bed.make(side, calls);
+}
+
+const SLOTS: usize = 512;
+/// From this number on, batches are those of the check.
+const CHECKS: usize = 100;
+
+/// The batches that are counted: the calls, and a check of the same tables.
+fn batches() -> Vec<Batch> {
+    // one call each, so that every check is of the same state
+    let mut batches = single_calls(SLOTS, 1);
+    let check = Batch { name: "check", bed: batches[0].bed.restored(), calls: vec![Call::Check], per: 1 };
+    batches.insert(0, check);
+    batches
+}
+
+/// Runs one batch on one side, once: what callgrind is given.
+pub fn once(batch: usize, side: usize) {
+    let all = if batch < CHECKS { batches() } else { checks(SLOTS) };
+    let batch = &all[batch % CHECKS];
+    let side = [Side::Archive, Side::Door, Side::Rows, Side::Oracle][side];
+    bench_counted(&mut batch.bed.restored(), side, &batch.calls);
+}
+
+/// Instructions for each call of a batch.
+fn counted(batch: usize, side: usize, per: usize) -> Option<f64> {
+    let out = Command::new("valgrind")
+        .args(["--tool=callgrind", "--callgrind-out-file=/dev/null", "--toggle-collect=bench_counted"])
+        .arg(std::env::current_exe().ok()?)
+        .args(["once", &batch.to_string(), &side.to_string()])
+        .output()
+        .ok()?;
+    let said = String::from_utf8_lossy(&out.stderr);
+    let line = said.lines().find(|line| line.contains("Collected"))?;
+    line.split(':').nth(1)?.trim().parse::<f64>().ok().map(|all| all / per as f64)
+}
+
+pub fn table() {
+    println!("\nInstructions a call, {SLOTS} slots, half of them in rings of four (callgrind)");
+    println!("`adds` is the host call less its check; `rows` and the oracle check nothing.");
+    let columns = ["archive", "rust", "archive adds", "rust adds", "rows", "oracle", "adds/rows", "adds/oracle"];
+    print!("{:<20}", "");
+    columns.iter().for_each(|column| print!("{column:>14}"));
+    println!();
+    let mut check = (0.0, 0.0);
+    for (at, batch) in batches().iter().enumerate() {
+        let count = |side| counted(at, side, batch.per).unwrap_or(f64::NAN);
+        let (archive, rust) = (count(0), count(1));
+        if at == 0 {
+            check = (archive, rust);
+            println!("{:<20}{archive:>14.0}{rust:>14.0}", batch.name);
+            continue;
+        }
+        let (adds, rust_adds, rows, oracle) = (archive - check.0, rust - check.1, count(2), count(3));
+        println!(
+            "{:<20}{archive:>14.0}{rust:>14.0}{adds:>14.0}{rust_adds:>14.0}{rows:>14.0}{oracle:>14.0}{:>14.2}{:>14.2}",
+            batch.name,
+            adds / rows,
+            adds / oracle
+        );
+    }
+    println!("\nThe check, instructions a slot (callgrind)");
+    println!("{:<26}{:>12}{:>12}{:>10}", "", "archive", "rust", "a/rust");
+    for (at, batch) in checks(SLOTS).iter().enumerate() {
+        let count = |side| counted(at + CHECKS, side, batch.per * SLOTS).unwrap_or(f64::NAN);
+        let (archive, rust) = (count(0), count(1));
+        println!("{:<26}{archive:>12.1}{rust:>12.1}{:>10.2}", batch.name, archive / rust);
+    }
+}
