@@ -1,8 +1,17 @@
 // The soundness check, linear in the extents and capacities; and the shape, which comes before it.
+use rules::CLASS;
+use rules::COUNT;
 use rules::FRAME;
+use rules::GENERATION;
 use rules::HEADER;
 use rules::Head;
+use rules::LAST_GENERATION;
+use rules::NEXT;
+use rules::NEXT_FREE;
+use rules::PAYLOAD;
+use rules::PREVIOUS;
 use rules::Pool;
+use rules::VALUE;
 ghost use mathlib.Core.Path.{_≡_};
 ghost use mathlib.Core.Bool.{true};
 ghost use Prim.Native.Nat.{ℕ, _*_, _≤_, _<_};
@@ -15,30 +24,11 @@ ghost use Rattle.rules.proofs.laws.Chains.{Linked};
 ghost use Rattle.rules.proofs.laws.Rounds.{Within, Fit, Round};
 ghost use Rattle.sound.specs.Parts.{Verdict, Zeros, Roomy, PoolOk, Headers, FreeOk, Fitting, Turned, Scanned, Blank};
 
-// Tables: the highest capacity, and the last generation.
+// Tables: the highest capacity.
 const MOST: u64 = 65536;
-
-const LAST: u64 = 4294967295;
 
 // The field that is 0 where a slot is free: an element's generation, a header's count.
 const USED: u64 = 0;
-
-// Fields of an element slot and of a shared slot (docs/LAYOUT.md).
-const GENERATION: u64 = 0;
-
-const PAYLOAD: u64 = 1;
-
-const CLASS: u64 = 2;
-
-const PREVIOUS: u64 = 3;
-
-const NEXT: u64 = 4;
-
-const COUNT: u64 = 0;
-
-const VALUE: u64 = 1;
-
-const NEXT_FREE: u64 = 2;
 
 // Refusals 1, of one table.
 pub fn fits(capacity: u64, width: u64, table: &[u64]) -> bool
@@ -182,7 +172,7 @@ fn frame_ok(e: &[u64], extent: u64, class: u64, y: u64) -> bool
     if g == 0 {
         return false;
     }
-    if LAST < g {
+    if LAST_GENERATION < g {
         return false;
     }
     if slots::get(e, FRAME, CLASS, y) != class {
@@ -347,7 +337,7 @@ pub fn is_sound(head: Head, elems: &[u64], shared: &[u64]) -> bool
     if head.generation == 0 {
         return false;
     }
-    if LAST < head.generation {
+    if LAST_GENERATION < head.generation {
         return false;
     }
     if !pool_ok(q, shared, HEADER, NEXT_FREE) {
