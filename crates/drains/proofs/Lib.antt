@@ -1,1 +1,4 @@
+pub mod Wiping
+pub mod Written
 pub mod Kit
+pub mod Listing

@@ -1,13 +1,9 @@
 use mathlib.Core.Path.{refl, _∙_}
 use borrow.Author.Tests.{not-true, not-false}
-use Rattle.drains.proofs.Kit.{fresh-1, fresh-done, fit-long}
+use Rattle.drains.proofs.Wiping.{fresh-1, fresh-done, fit-long}
 use borrow.Author.Needs.{needs}
-use Rattle.drains.proofs.fresh.Statement.{statement}
-use Rattle.drains.proofs.fresh.Tie as tie
-use Rattle.drains.proofs.fresh.Reads as reads
-use Rattle.drains.proofs.fresh.Lts as lts
-use Rattle.drains.proofs.blank.Reads as blank-reads
-use Rattle.sound.proofs.both_fit.Reads as both-fit-reads
+use Rattle.drains.proofs.wipes.fresh.Statement.{statement}
+use Rattle.drains.proofs.wipes.fresh.Tie as tie
 
 both-fit-requires : tie.Need-both-fit-requires
 both-fit-requires c κs = search needs

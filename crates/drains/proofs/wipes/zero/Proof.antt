@@ -5,10 +5,8 @@ use mathlib.Core.List.{List, _++_, append-nil}
 use lib.ListN.{length, set, drop, replicate, length-set}
 use lib.Seq.{drop-length}
 use borrow.Author.Fill.{fill-more}
-use Rattle.drains.proofs.zero.Statement.{statement}
-use Rattle.drains.proofs.zero.Tie as tie
-use Rattle.drains.proofs.zero.Reads as reads
-use Rattle.drains.proofs.zero.Lts as lts
+use Rattle.drains.proofs.wipes.zero.Statement.{statement}
+use Rattle.drains.proofs.wipes.zero.Tie as tie
 
 abbrev Inv-loop : tie.InvT-loop
 Inv-loop t₀ i₀ t i = (t ≡ replicate i 0 ++ drop i t₀) × (length t ≡ length t₀) × (i ≤ length t₀)

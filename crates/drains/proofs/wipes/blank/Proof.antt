@@ -1,11 +1,7 @@
 use Rattle.rules.specs.Slots.{empty}
 use borrow.Author.Needs.{needs}
-use Rattle.drains.proofs.blank.Statement.{statement}
-use Rattle.drains.proofs.blank.Tie as tie
-use Rattle.drains.proofs.blank.Reads as reads
-use Rattle.drains.proofs.blank.Lts as lts
-use Rattle.drains.proofs.empty_pool.Reads as empty-pool-reads
-use Rattle.drains.proofs.zero.Reads as zero-reads
+use Rattle.drains.proofs.wipes.blank.Statement.{statement}
+use Rattle.drains.proofs.wipes.blank.Tie as tie
 
 zero-requires : tie.Need-zero-requires
 zero-requires c κs = search needs

@@ -2,12 +2,8 @@ use Rattle.rules.specs.Drains.{clear, cleared}
 use Rattle.rules.specs.Slots.{overflows}
 use Rattle.rules.proofs.laws.Safe.{safe}
 use borrow.Author.Needs.{needs}
-use Rattle.drains.proofs.clear.Statement.{statement}
-use Rattle.drains.proofs.clear.Tie as tie
-use Rattle.drains.proofs.clear.Reads as reads
-use Rattle.drains.proofs.clear.Lts as lts
-use Rattle.drains.proofs.blank.Reads as blank-reads
-use Rattle.rules.proofs.Head.raise.Reads as raise-reads
+use Rattle.drains.proofs.wipes.clear.Statement.{statement}
+use Rattle.drains.proofs.wipes.clear.Tie as tie
 
 raise-requires : tie.Need-raise-requires
 raise-requires c κs = search needs

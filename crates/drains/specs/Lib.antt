@@ -1,0 +1,2 @@
+-- What the functions over whole runs ask and answer.
+pub mod Answered

@@ -1,0 +1,98 @@
+// Rules 2 and 12: fresh and clear.
+use rules::Done;
+use rules::Head;
+use rules::HeadDone;
+use rules::Pool;
+use rules::Refusal;
+use sound::both_fit;
+ghost use mathlib.Core.Path.{_≡_};
+ghost use mathlib.Core.List.{List, []};
+ghost use Prim.Native.Nat.{ℕ, _+_, _*_, _≤_, _<_};
+ghost use lib.ListN.{length, replicate};
+ghost use Rattle.rules.specs.Tables.{frameWidth, headerWidth, stateOf};
+ghost use Rattle.rules.specs.Slots.{emptyPool, empty};
+ghost use Rattle.rules.specs.Calls as calls;
+ghost use Rattle.rules.specs.Calls.{Ready, step, freshStep};
+ghost use Rattle.rules.specs.Answers.{afterDone};
+
+// Rules 2 and 12: every number of a table becomes 0.
+fn zero(t: &mut [u64])
+    ensures { λ r. ⌜ now (t .exit) ≡ replicate (length (now (t .entry))) 0 ⌝ }
+{
+    let mut i = 0;
+    while i < t.len() {
+        t[i] = 0;
+        i += 1;
+    }
+}
+
+// Rules 2 and 12: zero tables of so many slots, and the head over them.
+fn blank(frames: u64, headers: u64, generation: u64, elems: &mut [u64], shared: &mut [u64]) -> Head
+    requires { ⌜ (length (now elems) ≡ frames * frameWidth) × (length (now shared) ≡ headers * headerWidth) ⌝ }
+    ensures { λ r. ⌜ stateOf r (now (elems .exit)) (now (shared .exit)) ≡ empty frames headers generation ⌝ }
+{
+    zero(elems);
+    zero(shared);
+    Head {
+        elems: empty_pool(frames),
+        shared: empty_pool(headers),
+        generation,
+    }
+}
+
+fn empty_pool(capacity: u64) -> Pool
+    ensures { λ r. ⌜ r ≡ emptyPool capacity ⌝ }
+{
+    Pool {
+        capacity,
+        extent: 0,
+        root: 0,
+        live: 0,
+    }
+}
+
+// Rules 2, fresh: any tables that fit, dirty ones too.
+pub fn fresh(
+    head: Head,
+    frames: u64,
+    headers: u64,
+    elems: &mut [u64],
+    shared: &mut [u64],
+) -> HeadDone
+    ensures { λ r. ⌜ afterDone r (now (elems .exit)) (now (shared .exit)) [] ≡ freshStep (stateOf head (now (elems .entry)) (now (shared .entry))) frames headers ⌝ }
+{
+    if !both_fit(elems, shared, frames, headers) {
+        return HeadDone {
+            head,
+            answer: Done::Refused(Refusal::Shape),
+            over: false,
+        };
+    }
+    let next = blank(frames, headers, 1, elems, shared);
+    HeadDone {
+        head: next,
+        answer: Done::Done,
+        over: false,
+    }
+}
+
+// Rules 12, clear.
+pub fn clear(head: Head, elems: &mut [u64], shared: &mut [u64]) -> HeadDone
+    requires { ⌜ Ready (stateOf head (now elems) (now shared)) ⌝ }
+    ensures { λ r. ⌜ afterDone r (now (elems .exit)) (now (shared .exit)) [] ≡ step (stateOf head (now (elems .entry)) (now (shared .entry))) [] calls.clear ⌝ }
+{
+    let raised = head.raise();
+    let generation = raised.head.generation;
+    let next = blank(
+        head.elems.capacity,
+        head.shared.capacity,
+        generation,
+        elems,
+        shared,
+    );
+    HeadDone {
+        head: next,
+        answer: Done::Done,
+        over: raised.over,
+    }
+}
