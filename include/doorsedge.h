@@ -170,7 +170,7 @@ uint64_t doorsedge_exchange_shared4(const uint64_t head[DOORSEDGE_HEAD], const u
 /* Begins a run: one frame with this payload, and this shared value.
    out: the frame's key.
    Refusals: 1, 2, 6, 5. */
-uint64_t doorsedge_insert_new(uint64_t head[DOORSEDGE_HEAD], uint64_t *elems, size_t elems_len, uint64_t *shared,
+uint64_t doorsedge_insert_surject(uint64_t head[DOORSEDGE_HEAD], uint64_t *elems, size_t elems_len, uint64_t *shared,
                               size_t shared_len, uint64_t payload, uint64_t value, uint64_t out[2]);
 
 /* Puts a frame into the key's run, immediately after the key's frame.

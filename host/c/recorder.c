@@ -39,7 +39,7 @@ static void begin_study(study *s) {
 
 static key begin_run(study *s, uint64_t picture, uint64_t description) {
     uint64_t out[2];
-    must("new run", doorsedge_insert_new(s->head, TABLES(s), picture, description, out));
+    must("new run", doorsedge_insert_surject(s->head, TABLES(s), picture, description, out));
     return (key){out[0], out[1]};
 }
 

@@ -8,7 +8,7 @@ use std::{error, fmt};
 /// # fn main() -> Result<(), doorsedge::Refusal> {
 /// use doorsedge::{Arena, Key};
 ///
-/// let key = Arena::fresh(1, 1)?.insert_new(10, 100)?;
+/// let key = Arena::fresh(1, 1)?.insert_surject(10, 100)?;
 /// assert_eq!(key, Key::new(1, 1));
 /// assert_eq!((key.slot(), key.generation()), (1, 1));
 /// # Ok(())

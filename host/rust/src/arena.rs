@@ -48,7 +48,7 @@ impl Arena {
     /// use doorsedge::Arena;
     ///
     /// let mut arena = Arena::fresh(2, 2)?;
-    /// let key = arena.insert_new(10, 100)?;
+    /// let key = arena.insert_surject(10, 100)?;
     /// let (head, elems, shared) = (*arena.head(), arena.elems().to_vec(), arena.shared().to_vec());
     /// assert_eq!(Arena::restored(head, elems, shared)?.get(key), Ok(10));
     /// # Ok(())
@@ -222,7 +222,7 @@ impl<T: Tables> Arena<T> {
     /// let mut arena = doorsedge::Arena::fresh(4, 4)?;
     /// let mut keys = [doorsedge::Key::new(0, 0); 4];
     /// for (n, key) in (1..).zip(&mut keys) {
-    ///     *key = arena.insert_new(n, 10 * n)?;
+    ///     *key = arena.insert_surject(n, 10 * n)?;
     /// }
     /// assert_eq!(arena.exchange_shared4(keys, [1, 2, 3, 4])?, [10, 20, 30, 40]);
     /// assert_eq!(arena.get_shared(keys[2])?, 3);
@@ -240,9 +240,9 @@ impl<T: Tables> Arena<T> {
     // ---- frames in and out
 
     /// Begins a run of one frame.
-    pub fn insert_new(&mut self, payload: u64, value: u64) -> Result<Key, Refusal> {
+    pub fn insert_surject(&mut self, payload: u64, value: u64) -> Result<Key, Refusal> {
         let mut out = [0; 2];
-        change!(self, doorsedge_insert_new, payload, value, &mut out)?;
+        change!(self, doorsedge_insert_surject, payload, value, &mut out)?;
         Ok(Key::new(out[0], out[1]))
     }
 
@@ -279,7 +279,7 @@ impl<T: Tables> Arena<T> {
     /// ```
     /// # fn main() -> Result<(), doorsedge::Refusal> {
     /// let mut arena = doorsedge::Arena::fresh(2, 1)?;
-    /// let key = arena.insert_new(10, 100)?;
+    /// let key = arena.insert_surject(10, 100)?;
     /// arena.insert(key, 11)?;
     /// let out: Vec<_> = arena.drain(key)?.iter().map(|record| (record.payload, record.last)).collect();
     /// assert_eq!(out, [(10, None), (11, Some(100))]);

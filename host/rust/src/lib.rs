@@ -9,9 +9,9 @@
 //!
 //! # fn main() -> Result<(), Refusal> {
 //! let mut arena = Arena::fresh(4, 3)?;
-//! let first = arena.insert_new(10, 100)?;
+//! let first = arena.insert_surject(10, 100)?;
 //! let second = arena.insert(first, 11)?;
-//! let other = arena.insert_new(20, 200)?;
+//! let other = arena.insert_surject(20, 200)?;
 //!
 //! // the larger run's shared value is kept
 //! let joined = arena.union(other, first)?;
@@ -33,11 +33,11 @@
 //!
 //! # fn main() -> Result<(), Refusal> {
 //! let (mut head, mut elems, mut shared) = ([0; 9], [0; elems_len(2)], [0; shared_len(1)]);
-//! Arena::fresh_in(2, 1, &mut head, &mut elems, &mut shared)?.insert_new(7, 70)?;
+//! Arena::fresh_in(2, 1, &mut head, &mut elems, &mut shared)?.insert_surject(7, 70)?;
 //!
 //! // later: whatever stands there now is tested before it is used
 //! let mut arena = Arena::borrowed(&mut head, &mut elems, &mut shared)?;
-//! assert_eq!(arena.insert_new(8, 80), Err(Refusal::NoShared));
+//! assert_eq!(arena.insert_surject(8, 80), Err(Refusal::NoShared));
 //!
 //! elems[1] ^= 1; // another payload: still sound
 //! assert!(Arena::borrowed(&mut head, &mut elems, &mut shared).is_ok());

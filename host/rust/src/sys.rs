@@ -123,7 +123,7 @@ unsafe extern "C" {
         out: *mut [u64; 4],
     ) -> u64;
 
-    pub fn doorsedge_insert_new(
+    pub fn doorsedge_insert_surject(
         head: *mut Head,
         elems: *mut u64,
         elems_len: usize,

@@ -99,7 +99,7 @@ fn door() {
     // these change the state, so each round makes one; the clock's own cost is in all of them
     let check = times(Call::Check);
     for (name, call) in [
-        ("insert_new, once", Call::InsertNew { payload: 1, value: 2 }),
+        ("insert_surject, once", Call::InsertNew { payload: 1, value: 2 }),
         ("insert, once", Call::Insert(key, 1)),
         ("remove_element, once", Call::RemoveElement(key)),
         ("clear, once", Call::Clear),

@@ -64,7 +64,7 @@ pub fn single_calls(n: usize, most: usize) -> Vec<Batch> {
         batch("set", &|i| Call::Set(at(i), payload(i))),
         batch("set_shared", &|i| Call::SetShared(at(i), payload(i))),
         batch("exchange_shared4", &|i| Call::ExchangeShared4(four(i), [1, 2, 3, 4])),
-        batch("insert_new", &|i| Call::InsertNew { payload: payload(i), value: 7 }),
+        batch("insert_surject", &|i| Call::InsertNew { payload: payload(i), value: 7 }),
         batch("insert", &|i| Call::Insert(at(i), payload(i))),
         one("union (4 + 4)", &|i| Call::Union(pair(i).0, pair(i).1), count.min(runs / 4).max(1)),
         batch("remove_element", &|i| Call::RemoveElement(keys[i % runs])),

@@ -41,7 +41,7 @@ impl Bed {
         let mut last = vec![];
         for i in 0..live / ring {
             let payload = i as u64;
-            last.push(rows.insert_new(payload, payload).unwrap());
+            last.push(rows.insert_surject(payload, payload).unwrap());
             oracle.insert_surject_within_capacity(payload, payload).unwrap();
         }
         for _ in 1..ring {
@@ -118,7 +118,7 @@ fn step(rows: &mut Rows, call: &Call, lent: &mut [u64]) -> Option<u64> {
         Call::Set(k, payload) => rows.set(k, payload).ok(),
         Call::SetShared(k, value) => rows.set_shared(k, value).ok(),
         Call::ExchangeShared4(keys, values) => rows.exchange_shared4(keys, values).ok().map(|old| old[0]),
-        Call::InsertNew { payload, value } => rows.insert_new(payload, value).ok().map(|key| key.slot),
+        Call::InsertNew { payload, value } => rows.insert_surject(payload, value).ok().map(|key| key.slot),
         Call::Insert(k, payload) => rows.insert(k, payload).ok().map(|key| key.slot),
         Call::Union(j, k) => rows.union(j, k).ok().map(|joined| joined.was),
         Call::RemoveElement(k) => rows.remove_element(k).ok().map(|out| out.payload),

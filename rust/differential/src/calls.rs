@@ -41,7 +41,7 @@ pub const KINDS: [&str; 19] = [
     "set",
     "set_shared",
     "exchange_shared4",
-    "insert_new",
+    "insert_surject",
     "insert",
     "union",
     "remove_element",

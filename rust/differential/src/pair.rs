@@ -244,7 +244,7 @@ impl Pair {
                 Ok(None)
             }
             Call::InsertNew(name, payload, value) => {
-                let said = self.port.insert_new(payload, value);
+                let said = self.port.insert_surject(payload, value);
                 let ptr = self.oracle.insert_surject_within_capacity(payload, value);
                 let (Ok(key), Ok(ptr)) = (said, ptr) else {
                     return Err(format!("new run: archive {said:?}, oracle {ptr:?}"));

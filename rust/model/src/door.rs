@@ -42,7 +42,7 @@ impl Call {
             Call::Set(..) => ("set", 1),
             Call::SetShared(..) => ("set_shared", 1),
             Call::ExchangeShared4(..) => ("exchange_shared4", 4),
-            Call::InsertNew { .. } => ("insert_new", 2),
+            Call::InsertNew { .. } => ("insert_surject", 2),
             Call::Insert(..) => ("insert", 2),
             Call::Union(..) => ("union", 4),
             Call::RemoveElement(_) => ("remove_element", 4),
@@ -128,7 +128,7 @@ pub fn said(rows: &mut Rows, call: &Call, lent: &mut [u64]) -> Result<[u64; 4], 
         Call::Set(k, payload) => one(rows.set(k, payload)?),
         Call::SetShared(k, value) => one(rows.set_shared(k, value)?),
         Call::ExchangeShared4(keys, values) => rows.exchange_shared4(keys, values)?,
-        Call::InsertNew { payload, value } => key(rows.insert_new(payload, value)?),
+        Call::InsertNew { payload, value } => key(rows.insert_surject(payload, value)?),
         Call::Insert(k, payload) => key(rows.insert(k, payload)?),
         Call::Union(j, k) => {
             let joined = rows.union(j, k)?;

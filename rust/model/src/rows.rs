@@ -160,7 +160,7 @@ impl Rows<'_> {
 
     // ---- frames in and out
 
-    pub fn insert_new(&mut self, payload: u64, value: u64) -> Result<Key, Refusal> {
+    pub fn insert_surject(&mut self, payload: u64, value: u64) -> Result<Key, Refusal> {
         if self.head.shared.is_full() {
             return Err(Refusal::NoShared);
         }

@@ -37,7 +37,7 @@ pub fn run(
                 }
                 doorsedge_exchange_shared4(h, e, en, s, sn, &numbers, &values, o.cast())
             }
-            Call::InsertNew { payload, value } => doorsedge_insert_new(h, e, en, s, sn, payload, value, o.cast()),
+            Call::InsertNew { payload, value } => doorsedge_insert_surject(h, e, en, s, sn, payload, value, o.cast()),
             Call::Insert(k, payload) => doorsedge_insert(h, e, en, s, sn, k.slot, k.generation, payload, o.cast()),
             Call::Union(j, k) => {
                 doorsedge_union(h, e, en, s, sn, j.slot, j.generation, k.slot, k.generation, o.cast())

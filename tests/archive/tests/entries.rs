@@ -86,7 +86,7 @@ fn exchange_shared4() {
 }
 
 #[test]
-fn insert_new_and_insert() {
+fn insert_surject_and_insert() {
     let mut host = two_runs();
     assert_eq!(said(&mut host, new_run(30, 300)), (5, vec![]));
     assert_eq!(said(&mut host, Call::Insert(key(4, 1), 30)), (5, vec![]));
