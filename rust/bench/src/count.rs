@@ -21,8 +21,10 @@ const CHECKS: usize = 100;
 fn batches() -> Vec<Batch> {
     // one call each, so that every check is of the same state
     let mut batches = single_calls(SLOTS, 1);
-    let check = Batch { name: "check", bed: batches[0].bed.restored(), calls: vec![Call::Check], per: 1 };
-    batches.insert(0, check);
+    let bed = || batches[0].bed.restored();
+    let check = Batch { name: "check", bed: bed(), calls: vec![Call::Check], per: 1 };
+    let nothing = Batch { name: "nothing", bed: bed(), calls: vec![], per: 1 };
+    batches.splice(0..0, [nothing, check]);
     batches
 }
 
@@ -50,25 +52,24 @@ fn counted(batch: usize, side: usize, per: usize) -> Option<f64> {
 pub fn table() {
     println!("\nInstructions a call, {SLOTS} slots, half of them in rings of four (callgrind)");
     println!("`adds` is the host call less its check; `rows` and the oracle check nothing.");
-    let columns = ["archive", "rust", "archive adds", "rust adds", "rows", "oracle", "adds/rows", "adds/oracle"];
+    let columns = ["archive", "rust", "archive adds", "rust adds", "rows", "oracle", "a/r adds", "a adds/rows"];
     print!("{:<20}", "");
     columns.iter().for_each(|column| print!("{column:>14}"));
     println!();
-    let mut check = (0.0, 0.0);
-    for (at, batch) in batches().iter().enumerate() {
-        let count = |side| counted(at, side, batch.per).unwrap_or(f64::NAN);
+    let count = |at, side| counted(at, side, 1).unwrap_or(f64::NAN);
+    // what the loop over the calls takes is no call's own
+    let nothing = [0, 1, 2, 3].map(|side| count(0, side));
+    let check = (count(1, 0) - nothing[0], count(1, 1) - nothing[1]);
+    println!("{:<20}{:>14.0}{:>14.0}", "check", check.0, check.1);
+    for (at, batch) in batches().iter().enumerate().skip(2) {
+        let count = |side: usize| count(at, side) - nothing[side];
         let (archive, rust) = (count(0), count(1));
-        if at == 0 {
-            check = (archive, rust);
-            println!("{:<20}{archive:>14.0}{rust:>14.0}", batch.name);
-            continue;
-        }
         let (adds, rust_adds, rows, oracle) = (archive - check.0, rust - check.1, count(2), count(3));
         println!(
             "{:<20}{archive:>14.0}{rust:>14.0}{adds:>14.0}{rust_adds:>14.0}{rows:>14.0}{oracle:>14.0}{:>14.2}{:>14.2}",
             batch.name,
-            adds / rows,
-            adds / oracle
+            adds / rust_adds,
+            adds / rows
         );
     }
     println!("\nThe check, instructions a slot (callgrind)");
