@@ -165,7 +165,7 @@ fn any_call(pair: &Pair, kind: usize, serial: usize, r: &mut Random) -> Call {
 }
 
 /// Four frames of four runs, where there are so many.
-fn apart(pair: &Pair, live: &[Name], four: &mut [Name; 4], r: &mut Random) {
+pub fn apart(pair: &Pair, live: &[Name], four: &mut [Name; 4], r: &mut Random) {
     let first = r.below(live.len().max(1));
     let mut count = 0;
     for &name in live[first..].iter().chain(&live[..first]) {

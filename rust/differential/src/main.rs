@@ -2,12 +2,15 @@
 //!
 //! `differential [CASES] [SEED] [--length N] [--fault NAME]`: all sequences of up to N calls (5), the adversarial cases, then
 //! CASES random sequences. Exit status 0: no difference; 1: a difference, shown by the smallest sequence that has it; 2: bad usage.
+//!
+//! `differential sample SEQUENCES SEED` writes a fixed sample of the oracle's answers ([sample]).
 
 mod calls;
 mod compare;
 mod generate;
 mod pair;
 mod run;
+mod sample;
 
 use calls::{Call, Case, KINDS};
 use generate::Random;
@@ -127,7 +130,28 @@ fn summary(args: &Args, way: &Way, progress: &Progress) {
     println!("{:<20}{:>12.1}", "seconds", progress.start.elapsed().as_secs_f64());
 }
 
+/// `sample SEQUENCES SEED`: the sample's bytes to the standard output.
+fn write_sample(words: &[String]) -> Option<()> {
+    let [_, sequences, seed] = words else { return None };
+    let bytes = sample::sample(sequences.parse().ok()?, seed.parse().ok()?, measured_side());
+    match bytes {
+        Ok(bytes) => std::io::stdout().write_all(&bytes).ok(),
+        Err(what) => {
+            eprintln!("the sides differ: {what}");
+            exit(1);
+        }
+    }
+}
+
 fn main() {
+    let words: Vec<String> = std::env::args().skip(1).collect();
+    if words.first().is_some_and(|word| word == "sample") {
+        if write_sample(&words).is_none() {
+            eprintln!("usage: differential sample SEQUENCES SEED");
+            exit(2);
+        }
+        return;
+    }
     let Some(args) = args() else {
         eprintln!("{USAGE}");
         exit(2);

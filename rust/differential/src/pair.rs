@@ -54,6 +54,8 @@ pub struct Pair {
     pub ordered: bool,
     pub fault: Fault,
     pub tally: Tally,
+    /// What the oracle said of the last union: the removed value, the frame kept, the frames that changed their run.
+    pub joined: (u64, Name, u64),
 }
 
 /// No difference.
@@ -66,7 +68,7 @@ impl Pair {
         let port = Arena::fresh(case.elems, case.shared).expect("capacities of a case are in range");
         let oracle = Oracle::with_min_capacity_separated(case.elems, case.shared).unwrap();
         let (by_key, by_ptr) = (vec![NEVER; case.elems + 1], vec![NEVER; case.elems + 1]);
-        Pair { port, oracle, frames: vec![], by_key, by_ptr, ordered, fault, tally: Tally::default() }
+        Pair { port, oracle, frames: vec![], by_key, by_ptr, ordered, fault, tally: Tally::default(), joined: (0, NEVER, 0) }
     }
 
     /// A name's keys. An unknown name has keys that were never given.
@@ -294,6 +296,7 @@ impl Pair {
                 let differing = before.iter().zip(&after).filter(|(a, b)| a != b).count() as u64;
                 same("class entries that differ", differing, joined.moved)?;
                 self.tally.largest_union = self.tally.largest_union.max(joined.moved);
+                self.joined = (was, self.name_of_ptr(kept), smaller);
                 Ok(None)
             }
             (Err(refusal), None) => {
