@@ -133,7 +133,8 @@ fn any_call(pair: &Pair, kind: usize, serial: usize, r: &mut Random) -> Call {
     };
     let (j, k) = (name(), name());
     let mut four = [j, k, name(), name()];
-    if kind == 8 && r.below(4) > 0 {
+    // frames of different runs, so that fewer unions and exchanges are refused
+    if (kind == 8 || kind == 11) && r.below(4) > 0 {
         apart(pair, &live, &mut four, r);
     }
     let (payload, value) = (number(2 * serial), number(2 * serial + 1));
@@ -153,7 +154,7 @@ fn any_call(pair: &Pair, kind: usize, serial: usize, r: &mut Random) -> Call {
         8 => Call::Exchange(four, [payload, value, payload + 1, value + 1]),
         9 => Call::InsertNew(serial, payload, value),
         10 => Call::Insert(k, serial, payload),
-        11 => Call::Union(j, k),
+        11 => Call::Union(four[0], four[1]),
         12 => Call::RemoveElement(k),
         13 => Call::RemoveShared(k),
         14 => Call::List(k),

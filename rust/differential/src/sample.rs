@@ -77,8 +77,8 @@ fn next(pair: &Pair, names: &mut usize, r: &mut Random) -> Vec<Call> {
     if live.is_empty() || r.below(3) == 0 {
         *names += 1;
         let new = *names;
-        return vec![match r.below(3) {
-            0 | 1 if !live.is_empty() => Call::Insert(k, new, new as u64),
+        return vec![match r.below(2) {
+            0 if !live.is_empty() => Call::Insert(k, new, new as u64),
             _ => Call::InsertNew(new, new as u64, value),
         }];
     }
@@ -92,7 +92,8 @@ fn next(pair: &Pair, names: &mut usize, r: &mut Random) -> Vec<Call> {
         5 => Call::Set(k, value),
         6 => Call::SetShared(k, value),
         7 => Call::Exchange(four, [value, value + 1, value + 2, value + 3]),
-        8..=11 => Call::Union(j, k),
+        8..=10 => Call::Union(four[0], four[1]),
+        11 => Call::Union(j, k),
         12 | 13 => Call::RemoveElement(k),
         14 => Call::RemoveShared(k),
         15 | 16 => Call::List(k),
