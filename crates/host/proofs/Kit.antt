@@ -1,0 +1,57 @@
+-- What the proofs of the entries share: an entry that unpacks the head, calls the door, packs the next head and tells the answer keeps its promise.
+use Prim.Native.Nat.{ℕ}
+use mathlib.Core.Path.{_≡_, refl, sym, ap, _∙_}
+use mathlib.Core.Bool.{Bool}
+use mathlib.Core.List.{List, []}
+use Rattle.rules.specs.declared.Head.{Head}
+use Rattle.rules.specs.Notation.{if_then_else_, _==_}
+use Rattle.rules.specs.Tables.{State, stateOf}
+use Rattle.rules.specs.declared.Refusal.{Refusal}
+use Rattle.rules.specs.declared.Refusal.the-variants.{Shape, Unsound, Dead, SameClass, NoElement, NoShared, Short, Malformed}
+use Rattle.rules.specs.Refusals.{numberOf, Said, Outcome, saidRefused, saidAccepted}
+use Rattle.rules.specs.Answers.{leaves}
+use Rattle.rules.specs.Calls.{Call, AtDoor, freshStep}
+use Rattle.host.specs.Host.{headOf, values, Left, left, shown, Answered, AtHost, AtFresh}
+
+-- a refused call leaves `out` as it was
+kept : (r : Refusal) (a b : List ℕ) → b ≡ (if numberOf r == 0 then a else b)
+kept Shape a b = refl
+kept Unsound a b = refl
+kept Dead a b = refl
+kept SameClass a b = refl
+kept NoElement a b = refl
+kept NoShared a b = refl
+kept Short a b = refl
+kept Malformed a b = refl
+
+pub refused : (numbers : Said → List ℕ) (said : Said) (r : Refusal) (out : List ℕ) (n : ℕ) → said ≡ saidRefused r → n ≡ numberOf r → Answered numbers said out n out
+refused numbers said r out n p q = record { number = rw p q; out = rw p (kept r (numbers (saidRefused r)) out) }
+
+-- an accepted call writes it
+pub accepted : (numbers : Said → List ℕ) (said : Said) (values : List ℕ) (over : Bool) (out : List ℕ) → said ≡ saidAccepted values over → Answered numbers said out 0 (numbers (saidAccepted values over))
+accepted numbers said values over out p = record { number = rw p; out = rw p }
+
+module _ (c : Call) (numbers : Said → List ℕ) (head elems shared lent out : List ℕ) where
+  pub hosted : (h next : Head) (said : Said) (r : ℕ) (packed elems′ shared′ lent′ out′ : List ℕ)
+      → h ≡ headOf head
+      → AtDoor (stateOf h elems shared) lent c (leaves next elems′ shared′ lent′ said)
+      → headOf packed ≡ next
+      → Answered numbers said out r out′
+      → AtHost c numbers head elems shared lent out (left r packed elems′ shared′ lent′ out′)
+  hosted h next said r packed elems′ shared′ lent′ out′ p d q a = record {
+    outcome = leaves next elems′ shared′ lent′ said;
+    door = rw p at d;
+    same = rw (q, a .number, a .out);
+  }
+
+-- the same of fresh
+pub freshened : (capacity classes : ℕ) (head elems shared : List ℕ) (h next : Head) (said : Said) (r : ℕ) (packed elems′ shared′ : List ℕ)
+    → h ≡ headOf head
+    → leaves next elems′ shared′ [] said ≡ freshStep (stateOf h elems shared) capacity classes
+    → headOf packed ≡ next
+    → Answered values said [] r []
+    → AtFresh capacity classes head elems shared (left r packed elems′ shared′ [] [])
+freshened capacity classes head elems shared h next said r packed elems′ shared′ p d q a =
+    let told : left r packed elems′ shared′ [] [] ≡ shown values [] (leaves next elems′ shared′ [] said) =
+    λ i. record { number = a .number i; state = stateOf (q i) elems′ shared′; lent = []; out = a .out i } in
+    record { same = told ∙ ap (shown values []) (d ∙ ap (λ (k : Head). freshStep (stateOf k elems shared) capacity classes) p) }

@@ -1,0 +1,30 @@
+use Rattle.rules.specs.declared.Done.{Done}
+use Rattle.rules.specs.Answers.{saidDone}
+use Rattle.host.proofs.Kit.{accepted, refused}
+use mathlib.Core.Path.{ap}
+use borrow.Author.Needs.{needs}
+use Rattle.host.proofs.answers.over_only.Statement.{statement}
+use Rattle.host.proofs.answers.over_only.Tie as tie
+
+enum-told : tie.Need-enum-told
+enum-told c = search needs
+
+number-if-requires : tie.Need-number-if-requires
+number-if-requires c κs = search needs
+
+enum-known-answer : tie.Need-enum-known-answer
+enum-known-answer c = search needs
+
+number-of-requires : tie.Need-number-of-requires
+number-of-requires c κs = search needs
+
+returns : tie.Need-returns
+returns c = rw (c .before .number-if .ensures) (accepted _ _ _ _ _ (ap (λ (a : Done). saidDone a (c .before .before .before .before .args .over)) (c .before .before .enum-told .given .1)))
+
+returns-2 : tie.Need-returns-2
+returns-2 c = refused _ _ (c .before .before .answer .given .0 .0) _ _ (ap (λ (a : Done). saidDone a (c .before .before .before .before .args .over)) (c .before .before .answer .given .1)) (c .number-of .ensures)
+
+pub over-only-spec : {M : Type 1} → statement M
+over-only-spec =
+    tie.close
+    (tie.spec enum-told number-if-requires enum-known-answer number-of-requires returns returns-2)

@@ -1,0 +1,84 @@
+// Sets: keys, rings and the head stay as they are.
+use crate::answers;
+use crate::head::unpack;
+use rules::Key;
+ghost use mathlib.Core.Path.{_≡_};
+ghost use mathlib.Core.List.{[]};
+ghost use Rattle.rules.specs.Calls.{setElement, setShared, exchange};
+ghost use Rattle.host.specs.Host.{keyOf, AtHost, left, values, keysOf};
+
+// Slot and generation of each key in turn.
+fn four_keys(keys: [u64; 8]) -> [Key; 4]
+    ensures { λ r. ⌜ r ≡ keysOf keys ⌝ }
+{
+    [
+        Key {
+            slot: keys[0],
+            generation: keys[1],
+        },
+        Key {
+            slot: keys[2],
+            generation: keys[3],
+        },
+        Key {
+            slot: keys[4],
+            generation: keys[5],
+        },
+        Key {
+            slot: keys[6],
+            generation: keys[7],
+        },
+    ]
+}
+
+// Rules 1: stores a payload.
+#[no_mangle]
+pub extern "C" fn doorsedge_set(
+    head: &[u64; 9],
+    elems: &mut [u64],
+    shared: &[u64],
+    slot: u64,
+    generation: u64,
+    payload: u64,
+    out: &mut [u64; 1],
+) -> u64
+    ensures { λ r. ⌜ AtHost (setElement (keyOf slot generation) payload) values (now (head .entry)) (now (elems .entry)) (now (shared .entry)) [] (now (out .entry)) (left r (now (head .entry)) (now (elems .exit)) (now (shared .entry)) [] (now (out .exit))) ⌝ }
+{
+    let answer = door::set(
+        unpack(*head),
+        elems,
+        shared,
+        Key {
+            slot: slot,
+            generation: generation,
+        },
+        payload,
+    );
+    answers::number(answer, out)
+}
+
+// Rules 1: stores the shared value of the key's run.
+#[no_mangle]
+pub extern "C" fn doorsedge_set_shared(
+    head: &[u64; 9],
+    elems: &[u64],
+    shared: &mut [u64],
+    slot: u64,
+    generation: u64,
+    value: u64,
+    out: &mut [u64; 1],
+) -> u64
+    ensures { λ r. ⌜ AtHost (setShared (keyOf slot generation) value) values (now (head .entry)) (now (elems .entry)) (now (shared .entry)) [] (now (out .entry)) (left r (now (head .entry)) (now (elems .entry)) (now (shared .exit)) [] (now (out .exit))) ⌝ }
+{
+    let answer = door::set_shared(
+        unpack(*head),
+        elems,
+        shared,
+        Key {
+            slot: slot,
+            generation: generation,
+        },
+        value,
+    );
+    answers::number(answer, out)
+}
