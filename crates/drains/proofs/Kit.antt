@@ -11,16 +11,19 @@ use Rattle.rules.specs.declared.Key.{Key}
 use Rattle.rules.specs.declared.Found.the-variants as lookup
 use Rattle.rules.specs.declared.Refusal.the-variants.{Dead, Short}
 use Rattle.rules.specs.Notation.{if_then_else_, steps}
-use Rattle.rules.specs.Tables.{frameWidth, nextOf, State, found, sizeAt}
+use Rattle.rules.specs.Tables.{frameWidth, headerWidth, classOf, nextOf, State, found, sizeAt}
 use Rattle.rules.specs.Refusals.{Ruling, outcome, saidAccepted, refuse, accept, withLive}
 use Rattle.rules.specs.Drains.{isShort}
 use Rattle.rules.proofs.laws.Safe.{Safe, LiveSlot}
 use Rattle.slots.specs.Asked.{Within, Along}
 use Rattle.drains.proofs.Written.{written-all}
 
--- a live slot of a safe state stands in the table, and so do all along next
+-- a live slot of a safe state, its header, and all slots along next stand in their tables
 pub live-in : (st : State) (x : ℕ) → Safe st → LiveSlot st x → Within frameWidth (st .elems) x
 live-in st x s l = let t = s .elems in record { some = l .some; inside = omega arith }
+
+pub header-in : (st : State) (x : ℕ) → Safe st → LiveSlot st x → Within headerWidth (st .shared) (classOf (st .elems) x)
+header-in st x s l = let t = s .shared in let f = s .frames x l in record { some = f .class-some; inside = omega arith }
 
 pub live-along : (st : State) (k x : ℕ) → Safe st → LiveSlot st x → LiveSlot st (steps (nextOf (st .elems)) k x)
 live-along st zero x s l = l

@@ -2,3 +2,4 @@ pub mod Wiping
 pub mod Written
 pub mod Kit
 pub mod Listing
+pub mod Freeing

@@ -1,2 +1,3 @@
 -- What the functions over whole runs ask and answer.
+pub mod Asked
 pub mod Answered
