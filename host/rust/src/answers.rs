@@ -80,6 +80,7 @@ impl Refusal {
             5 => Refusal::NoElement,
             6 => Refusal::NoShared,
             7 => Refusal::Short,
+            crate::sys::ABSENT => panic!("the archive lacks this entry"),
             n => unreachable!("no entry gives {n}"),
         })
     }

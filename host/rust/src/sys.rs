@@ -10,6 +10,14 @@ use mock as _;
 
 pub type Head = [u64; 9];
 
+/// What stands in for an entry that the archive lacks gives this number; no entry of the archive does.
+pub const ABSENT: u64 = 99;
+
+mod missing {
+    include!(concat!(env!("OUT_DIR"), "/missing.rs"));
+}
+pub use missing::MISSING;
+
 unsafe extern "C" {
     pub fn doorsedge_fresh(
         head: *mut Head,

@@ -156,6 +156,10 @@ fn main() {
         eprintln!("{USAGE}");
         exit(2);
     };
+    if !doorsedge::sys::MISSING.is_empty() {
+        eprintln!("no run: the archive lacks {}", doorsedge::sys::MISSING.join(", "));
+        exit(2);
+    }
     std::panic::set_hook(Box::new(|_| {}));
     let way = Way { ordered: measured_side(), fault: args.fault };
     let mut progress = Progress { tally: Tally::default(), start: Instant::now(), shown: Instant::now() };

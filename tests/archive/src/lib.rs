@@ -99,6 +99,11 @@ impl Host {
         let (host, wanted) = (&mut expected.0, &mut expected.1);
         let (h, e, s) = (&mut host.head, &mut host.elems, &mut host.shared);
         wanted.number = door::run(sound, h, e, s, &call, &mut wanted.lent, &mut wanted.out);
+        if said.number == ABSENT {
+            // nothing to compare: the model's outcome stands
+            *self = expected.0;
+            return expected.1;
+        }
         let same = *self == *host && said == *wanted;
         let kept = said.number == 0 || *self == before && said.out == [UNTOUCHED; 4] && said.lent == lent;
         if !same || !kept {
