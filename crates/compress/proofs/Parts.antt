@@ -104,6 +104,7 @@ pub record Rows (st : State) (e sc : List ℕ) (n : ℕ) : Type 0 where
   pub few : n ≤ mostSlots
   pub elems : n * frameWidth ≤ length e
   pub scratch : n * frameWidth ≤ length sc
+  pub some : 1 ≤ st .head .elems .capacity
   pub slots : st .head .elems .capacity ≤ mostSlots
   pub all : st .head .elems .capacity * frameWidth ≤ length sc
 
@@ -115,6 +116,7 @@ rows st sc₀ g e sc n R room G =
       few = omega (arith, G .all, fit, H .elems .small);
       elems = omega (arith, G .all, fit, H .elems .long, G .long);
       scratch = omega (arith, G .all, fit, room, G .wide);
+      some = H .elems .some;
       slots = H .elems .small;
       all = omega (arith, room, G .wide);
     }

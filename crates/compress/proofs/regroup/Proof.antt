@@ -23,7 +23,7 @@ mul-zero-2 : tie.Need-mul-zero-2
 mul-zero-2 c = let F = rows _ _ _ _ _ _ (c .before .before .before .before .before .before .before .before .before .before .before .before .before .before .before .before .before .before .before .before .before .pre .ready) (c .before .before .before .before .before .before .before .before .before .before .before .before .before .before .before .before .before .before .before .before .before .pre .scratch) (c .before .before .before .before .before .before .before .before .before .before .before .before .before .before .before .gather .ensures) in omega (arith, F .slots)
 
 zero-requires-2 : tie.Need-zero-requires-2
-zero-requires-2 c κs = let F = rows _ _ _ _ _ _ (c .before .before .before .before .before .before .before .before .before .before .before .before .before .before .before .before .before .before .before .before .before .pre .ready) (c .before .before .before .before .before .before .before .before .before .before .before .before .before .before .before .before .before .before .before .before .before .pre .scratch) (c .before .before .before .before .before .before .before .before .before .before .before .before .before .before .before .gather .ensures) in (omega arith, F .all)
+zero-requires-2 c κs = let F = rows _ _ _ _ _ _ (c .before .before .before .before .before .before .before .before .before .before .before .before .before .before .before .before .before .before .before .before .before .pre .ready) (c .before .before .before .before .before .before .before .before .before .before .before .before .before .before .before .before .before .before .before .before .before .pre .scratch) (c .before .before .before .before .before .before .before .before .before .before .before .before .before .before .before .gather .ensures) in omega (arith, F .some, F .all)
 
 same-length : tie.Need-same-length
 same-length c = search needs
