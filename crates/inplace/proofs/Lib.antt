@@ -1,0 +1,3 @@
+pub mod Pieces
+pub mod InsertWalk
+pub mod RemoveWalk
