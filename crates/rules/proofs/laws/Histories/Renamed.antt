@@ -16,7 +16,7 @@ use Rattle.rules.proofs.laws.Safe.{working}
 use Rattle.rules.proofs.laws.Compress.{generationAfter, compressed, compress-keeps}
 use Rattle.rules.proofs.laws.Fronted.{same-length}
 use Rattle.rules.proofs.laws.Good.{Good}
-use Rattle.rules.proofs.laws.Histories.Sorted.{same-sort}
+use Rattle.rules.proofs.laws.Histories.Sorting.{same-sort}
 use Rattle.rules.proofs.laws.Histories.Compress.{rep-compressed}
 
 renamed-length : (g n : ℕ) (rs : List (List Key)) → length (flat (renamed g n rs)) ≡ length (flat rs)
