@@ -1,3 +1,4 @@
 pub mod Kit
 pub mod Joining
 pub mod Leaving
+pub mod Fours
