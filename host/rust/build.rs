@@ -51,6 +51,7 @@ fn lacking(archive: &Path, header: &Path) -> Vec<String> {
     };
     let defined = String::from_utf8_lossy(&defined.stdout).into_owned();
     let is_defined = |entry: &str| defined.lines().any(|line| line.ends_with(&format!(" T {entry}")));
-    let entries = header.lines().filter_map(|line| line.strip_prefix("uint64_t ")?.split_once('(').map(|(name, _)| name));
+    let entries =
+        header.lines().filter_map(|line| line.strip_prefix("uint64_t ")?.split_once('(').map(|(name, _)| name));
     entries.filter(|entry| !is_defined(entry)).map(str::to_owned).collect()
 }

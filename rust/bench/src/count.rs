@@ -63,7 +63,7 @@ pub fn table() {
     println!("{:<20}{:>14.0}{:>14.0}", "check", check.0, check.1);
     for (at, batch) in batches().iter().enumerate().skip(2) {
         let count = |side: usize| count(at, side) - nothing[side];
-        let (archive, rust) = (count(0), count(1));
+        let (archive, rust) = (if batch.is_there() { count(0) } else { f64::NAN }, count(1));
         let (adds, rust_adds, rows, oracle) = (archive - check.0, rust - check.1, count(2), count(3));
         println!(
             "{:<20}{archive:>14.0}{rust:>14.0}{adds:>14.0}{rust_adds:>14.0}{rows:>14.0}{oracle:>14.0}{:>14.2}{:>14.2}",

@@ -99,7 +99,7 @@ fn door() {
     // these change the state, so each round makes one; the clock's own cost is in all of them
     let check = times(Call::Check);
     for (name, call) in [
-        ("insert_surject, once", Call::InsertNew { payload: 1, value: 2 }),
+        ("insert_surject, once", Call::InsertSurject { payload: 1, value: 2 }),
         ("insert, once", Call::Insert(key, 1)),
         ("remove_element, once", Call::RemoveElement(key)),
         ("clear, once", Call::Clear),
@@ -117,7 +117,11 @@ fn main() {
     {
         return count::once(batch.parse().unwrap(), side.parse().unwrap());
     }
-    let on = if cfg!(feature = "mock") { "the MOCK: the figures of `archive` say nothing" } else { "target/staticlib/libhost.a" };
+    let on = if cfg!(feature = "mock") {
+        "the MOCK: the figures of `archive` say nothing"
+    } else {
+        "target/staticlib/libhost.a"
+    };
     println!("archive: {on}");
     match words.first().map(String::as_str) {
         None => {

@@ -118,7 +118,7 @@ fn step(rows: &mut Rows, call: &Call, lent: &mut [u64]) -> Option<u64> {
         Call::Set(k, payload) => rows.set(k, payload).ok(),
         Call::SetShared(k, value) => rows.set_shared(k, value).ok(),
         Call::ExchangeShared4(keys, values) => rows.exchange_shared4(keys, values).ok().map(|old| old[0]),
-        Call::InsertNew { payload, value } => rows.insert_surject(payload, value).ok().map(|key| key.slot),
+        Call::InsertSurject { payload, value } => rows.insert_surject(payload, value).ok().map(|key| key.slot),
         Call::Insert(k, payload) => rows.insert(k, payload).ok().map(|key| key.slot),
         Call::Union(j, k) => rows.union(j, k).ok().map(|joined| joined.was),
         Call::RemoveElement(k) => rows.remove_element(k).ok().map(|out| out.payload),
@@ -146,20 +146,26 @@ fn ask(a: &mut Oracle, call: &Call, lent: &mut [u64]) -> Option<u64> {
             let mut values = values.into_iter();
             old.map(|s| std::mem::replace(s, values.next().unwrap()))[0]
         }
-        Call::InsertNew { payload, value } => a.insert_surject_within_capacity(payload, value).ok()?.inx().get() as u64,
+        Call::InsertSurject { payload, value } => {
+            a.insert_surject_within_capacity(payload, value).ok()?.inx().get() as u64
+        }
         Call::Insert(k, payload) => a.insert_within_capacity(ptr(k), payload).ok()?.inx().get() as u64,
         Call::Union(j, k) => a.union(ptr(j), ptr(k))?.0,
         Call::RemoveElement(k) => a.remove_element(ptr(k)).allow()?.0,
         Call::RemoveShared(k) => a.remove_shared(ptr(k)).allow()?,
         Call::List(k) => {
             let places = lent.chunks_exact_mut(2).zip(a.iter_surject(ptr(k))?);
-            places.map(|(place, (p, _, _))| place.copy_from_slice(&[p.inx().get() as u64, p.generation().get() as u64])).count() as u64
+            places
+                .map(|(place, (p, _, _))| place.copy_from_slice(&[p.inx().get() as u64, p.generation().get() as u64]))
+                .count() as u64
         }
         Call::Drain(k) => {
             let records = lent.chunks_exact_mut(6).zip(a.drain_surject(ptr(k))?);
             records.map(|(record, o)| note(record, o.allow())).count() as u64
         }
-        Call::DrainAll => lent.chunks_exact_mut(6).zip(a.drain_combined()).map(|(record, o)| note(record, o.allow())).count() as u64,
+        Call::DrainAll => {
+            lent.chunks_exact_mut(6).zip(a.drain_combined()).map(|(record, o)| note(record, o.allow())).count() as u64
+        }
         Call::Clear => {
             a.clear().allow();
             0

@@ -18,7 +18,7 @@ pub enum Call {
     SetShared(Name, u64),
     Exchange([Name; 4], [u64; 4]),
     /// The frame that is put in, its payload, the run's shared value.
-    InsertNew(Name, u64, u64),
+    InsertSurject(Name, u64, u64),
     /// At the first; the frame that is put in is the second.
     Insert(Name, Name, u64),
     Union(Name, Name),
@@ -66,7 +66,7 @@ impl Call {
             Call::Set(..) => 6,
             Call::SetShared(..) => 7,
             Call::Exchange(..) => 8,
-            Call::InsertNew(..) => 9,
+            Call::InsertSurject(..) => 9,
             Call::Insert(..) => 10,
             Call::Union(..) => 11,
             Call::RemoveElement(_) => 12,
@@ -105,7 +105,7 @@ impl fmt::Display for Call {
             Call::Exchange([a, b, c, d], [x, y, z, w]) => {
                 write!(f, "{kind} {} {} {} {} {x} {y} {z} {w}", Shown(a), Shown(b), Shown(c), Shown(d))
             }
-            Call::InsertNew(name, payload, value) => write!(f, "{} = {kind} {payload} {value}", Shown(name)),
+            Call::InsertSurject(name, payload, value) => write!(f, "{} = {kind} {payload} {value}", Shown(name)),
             Call::Insert(at, name, payload) => write!(f, "{} = {kind} {} {payload}", Shown(name), Shown(at)),
             Call::Compress(reset) => write!(f, "{kind}{}", if reset { " reset" } else { "" }),
         }

@@ -34,7 +34,7 @@ fn number(serial: usize) -> u64 {
 pub fn next_calls(live: &[Name], made: usize) -> Vec<Call> {
     let (payload, value) = (number(2 * made), number(2 * made + 1));
     let mut calls = vec![
-        Call::InsertNew(made, payload, value),
+        Call::InsertSurject(made, payload, value),
         Call::DrainAll,
         Call::Clear,
         Call::Compress(false),
@@ -140,7 +140,7 @@ fn any_call(pair: &Pair, kind: usize, serial: usize, r: &mut Random) -> Call {
     let (payload, value) = (number(2 * serial), number(2 * serial + 1));
     // with no frames there is little to call but a new run
     if pair.oracle.is_empty() && r.below(4) > 0 {
-        return Call::InsertNew(serial, payload, value);
+        return Call::InsertSurject(serial, payload, value);
     }
     match kind {
         0 => Call::Fresh,
@@ -152,7 +152,7 @@ fn any_call(pair: &Pair, kind: usize, serial: usize, r: &mut Random) -> Call {
         6 => Call::Set(k, payload),
         7 => Call::SetShared(k, value),
         8 => Call::Exchange(four, [payload, value, payload + 1, value + 1]),
-        9 => Call::InsertNew(serial, payload, value),
+        9 => Call::InsertSurject(serial, payload, value),
         10 => Call::Insert(k, serial, payload),
         11 => Call::Union(four[0], four[1]),
         12 => Call::RemoveElement(k),
@@ -179,7 +179,7 @@ pub fn apart(pair: &Pair, live: &[Name], four: &mut [Name; 4], r: &mut Random) {
 }
 
 fn new_runs(count: usize) -> Vec<Call> {
-    (0..count).map(|i| Call::InsertNew(i, number(2 * i), number(2 * i + 1))).collect()
+    (0..count).map(|i| Call::InsertSurject(i, number(2 * i), number(2 * i + 1))).collect()
 }
 
 /// Runs of one joined two by two, then four by four, and so on: the most rewriting that there is.
@@ -203,7 +203,7 @@ fn one_ring(n: usize, r: &mut Random) -> Vec<Call> {
     for i in 1..n {
         let payload = number(2 * i);
         if i % 3 == 0 {
-            calls.push(Call::InsertNew(i, payload, payload + 1));
+            calls.push(Call::InsertSurject(i, payload, payload + 1));
             let at = r.below(i);
             calls.push(if i % 2 == 0 { Call::Union(i, at) } else { Call::Union(at, i) });
         } else {
@@ -223,7 +223,7 @@ fn churn(n: usize, rounds: usize, r: &mut Random) -> Vec<Call> {
         while live.len() < n {
             let payload = number(2 * serial);
             if live.is_empty() || r.below(3) == 0 {
-                calls.push(Call::InsertNew(serial, payload, payload + 1));
+                calls.push(Call::InsertSurject(serial, payload, payload + 1));
             } else {
                 calls.push(Call::Insert(r.of(&live), serial, payload));
             }
@@ -264,7 +264,7 @@ fn displaced(n: usize, r: &mut Random) -> Vec<Call> {
             }
         }
         for _ in 0..n / 4 {
-            calls.push(Call::InsertNew(serial, number(2 * serial), number(2 * serial + 1)));
+            calls.push(Call::InsertSurject(serial, number(2 * serial), number(2 * serial + 1)));
             left.push(serial);
             serial += 1;
         }

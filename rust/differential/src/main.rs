@@ -90,7 +90,7 @@ fn calls_made(tally: &Tally) -> u64 {
 
 /// Whether both sides put a new frame on the same side of its target: three frames tell.
 fn measured_side() -> bool {
-    let calls = vec![Call::InsertNew(0, 1, 2), Call::Insert(0, 1, 3), Call::Insert(0, 2, 4), Call::List(0)];
+    let calls = vec![Call::InsertSurject(0, 1, 2), Call::Insert(0, 1, 3), Call::Insert(0, 2, 4), Call::List(0)];
     let way = Way { ordered: true, fault: Fault::None };
     way.run(&Case { elems: 3, shared: 1, calls, stride: 4 }).is_ok()
 }
@@ -121,7 +121,13 @@ fn summary(args: &Args, way: &Way, progress: &Progress) {
     for (name, counts) in KINDS.iter().zip(tally.calls) {
         println!("{name:<20}{:>12}{:>12}{:>12}", counts[0], counts[1], counts[2]);
     }
-    println!("{:<20}{:>12} in {} sequences, all frames compared {} times", "calls", calls_made(tally), tally.sequences, tally.compared);
+    println!(
+        "{:<20}{:>12} in {} sequences, all frames compared {} times",
+        "calls",
+        calls_made(tally),
+        tally.sequences,
+        tally.compared
+    );
     println!("{:<20}{:>12}", "longest ring", tally.longest_ring);
     println!("{:<20}{:>12}", "largest union", tally.largest_union);
     let side = if way.ordered { "the same: rings in order" } else { "DIFFERENT: rings as sets" };
@@ -172,7 +178,10 @@ fn main() {
         Err((case, difference)) => {
             let calls = case.calls.len();
             let (case, difference) = way.shrink(&case, difference);
-            println!("A DIFFERENCE, found after {calls} calls; the smallest sequence that shows it:\n{case}\n-- {}", difference.what);
+            println!(
+                "A DIFFERENCE, found after {calls} calls; the smallest sequence that shows it:\n{case}\n-- {}",
+                difference.what
+            );
             exit(1);
         }
     }

@@ -68,7 +68,17 @@ impl Pair {
         let port = Arena::fresh(case.elems, case.shared).expect("capacities of a case are in range");
         let oracle = Oracle::with_min_capacity_separated(case.elems, case.shared).unwrap();
         let (by_key, by_ptr) = (vec![NEVER; case.elems + 1], vec![NEVER; case.elems + 1]);
-        Pair { port, oracle, frames: vec![], by_key, by_ptr, ordered, fault, tally: Tally::default(), joined: (0, NEVER, 0) }
+        Pair {
+            port,
+            oracle,
+            frames: vec![],
+            by_key,
+            by_ptr,
+            ordered,
+            fault,
+            tally: Tally::default(),
+            joined: (0, NEVER, 0),
+        }
     }
 
     /// A name's keys. An unknown name has keys that were never given.
@@ -113,19 +123,27 @@ impl Pair {
     /// The name of a key of the archive, and of one of the oracle.
     pub fn name_of_key(&self, key: Key) -> Name {
         let name = self.by_key.get(key.slot() as usize).copied().unwrap_or(NEVER);
-        if self.frames.get(name).is_some_and(|frame| frame.is_some_and(|frame| frame.key == key)) { name } else { NEVER }
+        if self.frames.get(name).is_some_and(|frame| frame.is_some_and(|frame| frame.key == key)) {
+            name
+        } else {
+            NEVER
+        }
     }
 
     pub fn name_of_ptr(&self, ptr: P0) -> Name {
         let name = self.by_ptr.get(ptr.inx().get()).copied().unwrap_or(NEVER);
-        if self.frames.get(name).is_some_and(|frame| frame.is_some_and(|frame| frame.ptr == ptr)) { name } else { NEVER }
+        if self.frames.get(name).is_some_and(|frame| frame.is_some_and(|frame| frame.ptr == ptr)) {
+            name
+        } else {
+            NEVER
+        }
     }
 
     /// Whether a call would need more room than there is: such calls are outside the domain.
     pub fn lacks_room(&self, call: &Call) -> bool {
         let elems = self.oracle.len() == self.oracle.capacity();
         match call {
-            Call::InsertNew(..) => elems || self.oracle.len_shared() == self.oracle.capacity_shared(),
+            Call::InsertSurject(..) => elems || self.oracle.len_shared() == self.oracle.capacity_shared(),
             Call::Insert(..) => elems,
             _ => false,
         }
@@ -137,7 +155,7 @@ impl Pair {
             return Ok(());
         }
         let refusal = match *call {
-            Call::InsertNew(..) | Call::Insert(..) | Call::Fresh => self.put_in(call)?,
+            Call::InsertSurject(..) | Call::Insert(..) | Call::Fresh => self.put_in(call)?,
             Call::Union(j, k) => self.union(j, k)?,
             Call::RemoveElement(_) | Call::RemoveShared(_) | Call::Drain(_) => self.take_out(call)?,
             Call::DrainAll | Call::Clear | Call::Compress(_) => self.on_all(call)?,
@@ -245,7 +263,7 @@ impl Pair {
                 self.forget();
                 Ok(None)
             }
-            Call::InsertNew(name, payload, value) => {
+            Call::InsertSurject(name, payload, value) => {
                 let said = self.port.insert_surject(payload, value);
                 let ptr = self.oracle.insert_surject_within_capacity(payload, value);
                 let (Ok(key), Ok(ptr)) = (said, ptr) else {
@@ -328,7 +346,11 @@ impl Pair {
                     }
                     _ => self.port.remove_shared(key).map(|out| (out.value, out.overflow)),
                 };
-                same("removal of a run", said, self.oracle.remove_shared(ptr).allow().map(|value| (value, false)).ok_or(dead))?;
+                same(
+                    "removal of a run",
+                    said,
+                    self.oracle.remove_shared(ptr).allow().map(|value| (value, false)).ok_or(dead),
+                )?;
                 Ok(said.err())
             }
             Call::Drain(k) => {
@@ -387,7 +409,8 @@ impl Pair {
 
     /// Drain-all is compared run by run: slot numbers, and so the order of runs and where each begins, may differ.
     fn same_runs(&self, said: &[Record], wanted: &[(P0, u64, Option<u64>)]) -> Result<(), String> {
-        let port = said.iter().map(|record| (self.name_of_key(record.key), record.payload, record.last)).collect::<Vec<_>>();
+        let port =
+            said.iter().map(|record| (self.name_of_key(record.key), record.payload, record.last)).collect::<Vec<_>>();
         let oracle = wanted.iter().map(|(ptr, t, s)| (self.name_of_ptr(*ptr), *t, *s)).collect::<Vec<_>>();
         same("overflow", said.iter().any(|record| record.overflow), false)?;
         same("drained runs", self.runs(&port), self.runs(&oracle))
@@ -412,8 +435,14 @@ impl Pair {
     /// After compression every frame has a new key, known by its payload. Keys from before are not handed in again.
     fn relearn(&mut self) -> Result<(), String> {
         let generation = self.port.generation();
-        let rows: Vec<(u64, Key)> =
-            self.port.elems().chunks(5).zip(1..).filter(|(row, _)| row[0] != 0).map(|(row, slot)| (row[1], Key::new(slot, row[0]))).collect();
+        let rows: Vec<(u64, Key)> = self
+            .port
+            .elems()
+            .chunks(5)
+            .zip(1..)
+            .filter(|(row, _)| row[0] != 0)
+            .map(|(row, slot)| (row[1], Key::new(slot, row[0])))
+            .collect();
         if rows.iter().any(|(_, key)| key.generation() != generation) {
             return Err("compression left an old generation".into());
         }

@@ -93,7 +93,7 @@ impl Way {
 fn renamed(case: &Case) -> Case {
     let mut names = vec![];
     for call in &case.calls {
-        if let Call::InsertNew(name, ..) | Call::Insert(_, name, _) = call {
+        if let Call::InsertSurject(name, ..) | Call::Insert(_, name, _) = call {
             names.push(*name);
         }
     }
@@ -106,7 +106,7 @@ fn renamed(case: &Case) -> Case {
         Call::Set(k, n) => Call::Set(name(k), n),
         Call::SetShared(k, n) => Call::SetShared(name(k), n),
         Call::Exchange(keys, values) => Call::Exchange(keys.map(name), values),
-        Call::InsertNew(new, payload, value) => Call::InsertNew(name(new), payload, value),
+        Call::InsertSurject(new, payload, value) => Call::InsertSurject(name(new), payload, value),
         Call::Insert(at, new, payload) => Call::Insert(name(at), name(new), payload),
         Call::Union(j, k) => Call::Union(name(j), name(k)),
         Call::RemoveElement(k) => Call::RemoveElement(name(k)),

@@ -11,7 +11,7 @@
 //! | 3 in_same_surject | key, key | | 1 or 0 |
 //! | 6 set, 7 set_shared | key | the new number | the old one |
 //! | 8 exchange_shared4 | four keys | four values | four old values |
-//! | 9 insert_new | the new frame | payload, value | |
+//! | 9 insert_surject | the new frame | payload, value | |
 //! | 10 insert | at, the new frame | payload | |
 //! | 11 union | key, key | | removed value, kept frame, entries rewritten |
 //! | 12 remove_element | key | | payload, 1 and the value or 0 and 0 |
@@ -79,7 +79,7 @@ fn next(pair: &Pair, names: &mut usize, r: &mut Random) -> Vec<Call> {
         let new = *names;
         return vec![match r.below(2) {
             0 if !live.is_empty() => Call::Insert(k, new, new as u64),
-            _ => Call::InsertNew(new, new as u64, value),
+            _ => Call::InsertSurject(new, new as u64, value),
         }];
     }
     vec![match r.below(20) {
@@ -167,7 +167,7 @@ fn push(bytes: &mut Vec<u8>, call: &Call, refusal: u64, answers: &[u64]) {
         Call::InSameSurject(j, k) | Call::Union(j, k) => (&[*j, *k], &[]),
         Call::Exchange(keys, values) => (keys, values),
         Call::Set(k, n) | Call::SetShared(k, n) => (&[*k], &[*n]),
-        Call::InsertNew(new, payload, value) => (&[*new], &[*payload, *value]),
+        Call::InsertSurject(new, payload, value) => (&[*new], &[*payload, *value]),
         Call::Insert(at, new, payload) => (&[*at, *new], &[*payload]),
         Call::LenSurject(k) | Call::Get(k) | Call::GetShared(k) => (&[*k], &[]),
         Call::RemoveElement(k) | Call::RemoveShared(k) | Call::List(k) | Call::Drain(k) => (&[*k], &[]),

@@ -11,11 +11,8 @@ struct Host {
 
 impl Host {
     fn fresh(elems: u64, shared: u64) -> Host {
-        let mut host = Host {
-            head: [0; 9],
-            elems: vec![7; elems as usize * FRAME],
-            shared: vec![7; shared as usize * HEADER],
-        };
+        let mut host =
+            Host { head: [0; 9], elems: vec![7; elems as usize * FRAME], shared: vec![7; shared as usize * HEADER] };
         assert_eq!(host.call(Call::Fresh { elems, shared }), (0, vec![]));
         host
     }
@@ -44,7 +41,7 @@ fn key(slot: u64, generation: u64) -> Key {
 }
 
 fn new_run(payload: u64, value: u64) -> Call {
-    Call::InsertNew { payload, value }
+    Call::InsertSurject { payload, value }
 }
 
 #[test]
@@ -145,7 +142,14 @@ fn the_check_is_the_sentences() {
         }
         let head = model::Head::of(&host.head);
         let verdict = sets::sound(&head, &host.elems, &host.shared);
-        assert_eq!(check::sound(&head, &host.elems, &host.shared), verdict, "{:?} {:?} {:?}", host.head, host.elems, host.shared);
+        assert_eq!(
+            check::sound(&head, &host.elems, &host.shared),
+            verdict,
+            "{:?} {:?} {:?}",
+            host.head,
+            host.elems,
+            host.shared
+        );
         verdicts[verdict as usize] += 1;
     }
     assert!(verdicts[0] > 2_000 && verdicts[1] > 2_000, "{verdicts:?}");

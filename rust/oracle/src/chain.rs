@@ -184,7 +184,12 @@ impl<P: Ptr, T, B: ArenaBacking> ChainArena<P, T, B> {
     }
 
     /// Moves all links of `source` here, chain by chain.
-    pub fn transfer_canonical_reallocating<Q: Ptr, T1, B1: ArenaBacking, F: FnMut(Q, InvalidationOption<T1>, P) -> T>(
+    pub fn transfer_canonical_reallocating<
+        Q: Ptr,
+        T1,
+        B1: ArenaBacking,
+        F: FnMut(Q, InvalidationOption<T1>, P) -> T,
+    >(
         &mut self,
         new_generation: P::Gen,
         source: &mut ChainArena<Q, T1, B1>,

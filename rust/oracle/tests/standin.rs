@@ -3,8 +3,8 @@
 
 use std::num::NonZeroUsize;
 use triple_arena::traits::*;
-use triple_arena::utils::{ArenaSlot, PtrNoGen};
 use triple_arena::utils::traits::{NonZeroInxGenericStack, PtrInx};
+use triple_arena::utils::{ArenaSlot, PtrNoGen};
 use triple_arena::{SurjectArena, ptr_struct};
 
 ptr_struct!(P0);
@@ -94,4 +94,19 @@ fn mixed_rings_pass_the_original_check() {
     class(&mut a, p1, class_q);
     assert_eq!(A::_check_invariants(&a), Ok(()));
     assert_eq!((a.get_shared(p), a.get_shared(p1)), (Some(&100), Some(&200)));
+}
+
+/// The files that are compiled are the published ones, byte for byte: lengths, and sums by FNV-1a.
+#[test]
+fn the_three_files_are_as_published() {
+    let sum = |text: &str| {
+        text.bytes().fold(0xCBF2_9CE4_8422_2325u64, |sum, byte| (sum ^ byte as u64).wrapping_mul(0x0100_0000_01B3))
+    };
+    let said = |text: &str| (text.len(), sum(text));
+    let arena = include_str!("../../../docs/src/src/surject/surject_arena.rs");
+    let iterators = include_str!("../../../docs/src/src/surject/surject_iterators.rs");
+    let imp = include_str!("../../../docs/src/src/surject/impl_surject_arena_trait.rs");
+    assert_eq!(said(arena), (60_012, 0xEAC2_C963_54CF_361B));
+    assert_eq!(said(iterators), (10_686, 0x33FF_FFF8_724D_A558));
+    assert_eq!(said(imp), (8_150, 0xBA79_4228_2154_4871));
 }

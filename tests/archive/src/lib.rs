@@ -37,20 +37,18 @@ pub fn run(
                 }
                 doorsedge_exchange_shared4(h, e, en, s, sn, &numbers, &values, o.cast())
             }
-            Call::InsertNew { payload, value } => doorsedge_insert_surject(h, e, en, s, sn, payload, value, o.cast()),
-            Call::Insert(k, payload) => doorsedge_insert(h, e, en, s, sn, k.slot, k.generation, payload, o.cast()),
-            Call::Union(j, k) => {
-                doorsedge_union(h, e, en, s, sn, j.slot, j.generation, k.slot, k.generation, o.cast())
+            Call::InsertSurject { payload, value } => {
+                doorsedge_insert_surject(h, e, en, s, sn, payload, value, o.cast())
             }
+            Call::Insert(k, payload) => doorsedge_insert(h, e, en, s, sn, k.slot, k.generation, payload, o.cast()),
+            Call::Union(j, k) => doorsedge_union(h, e, en, s, sn, j.slot, j.generation, k.slot, k.generation, o.cast()),
             Call::RemoveElement(k) => doorsedge_remove_element(h, e, en, s, sn, k.slot, k.generation, o.cast()),
             Call::RemoveShared(k) => doorsedge_remove_shared(h, e, en, s, sn, k.slot, k.generation, o.cast()),
             Call::List(k) => doorsedge_list(h, e, en, s, sn, k.slot, k.generation, l, ln, o.cast()),
             Call::Drain(k) => doorsedge_drain(h, e, en, s, sn, k.slot, k.generation, l, ln, o.cast()),
             Call::DrainAll => doorsedge_drain_all(h, e, en, s, sn, l, ln, o.cast()),
             Call::Clear => doorsedge_clear(h, e, en, s, sn, o.cast()),
-            Call::CompressCanonical { reset } => {
-                doorsedge_compress_canonical(h, e, en, s, sn, reset, l, ln, o.cast())
-            }
+            Call::CompressCanonical { reset } => doorsedge_compress_canonical(h, e, en, s, sn, reset, l, ln, o.cast()),
         }
     }
 }
@@ -136,7 +134,7 @@ pub fn every_call(j: Key, k: Key) -> Vec<Call> {
         Call::Set(k, 5),
         Call::SetShared(k, 6),
         Call::ExchangeShared4([j, k, j, k], [1, 2, 3, 4]),
-        Call::InsertNew { payload: 7, value: 8 },
+        Call::InsertSurject { payload: 7, value: 8 },
         Call::Insert(k, 9),
         Call::Union(j, k),
         Call::RemoveElement(k),

@@ -12,7 +12,7 @@ fn said(host: &mut Host, call: Call) -> (u64, Vec<u64>) {
 }
 
 fn new_run(payload: u64, value: u64) -> Call {
-    Call::InsertNew { payload, value }
+    Call::InsertSurject { payload, value }
 }
 
 /// P1 and P2: ring 1, 3, 2 under 100, and 4 under 200.

@@ -14,8 +14,8 @@ fn numbers(host: &Host) -> Vec<u64> {
 fn two_runs() -> Host {
     let mut host = Host::fresh(4, 3);
     for call in [
-        Call::InsertNew { payload: 1, value: 2 },
-        Call::InsertNew { payload: 3, value: 4 },
+        Call::InsertSurject { payload: 1, value: 2 },
+        Call::InsertSurject { payload: 3, value: 4 },
         Call::Insert(key(1, 1), 5),
     ] {
         assert_eq!(host.call(call, &[]).number, 0);
@@ -61,7 +61,7 @@ fn capacities_at_their_limits() {
         (host.head[0], host.head[4]) = (elems, shared);
         assert_eq!(host.call_with(check::sound, Call::Check, &[]).number, number, "{elems} {shared}");
         assert_eq!(host.call_with(check::sound, Call::Fresh { elems, shared }, &[]).number, number);
-        let new = host.call_with(check::sound, Call::InsertNew { payload: 1, value: 2 }, &[]).number;
+        let new = host.call_with(check::sound, Call::InsertSurject { payload: 1, value: 2 }, &[]).number;
         assert_eq!(new, number);
     }
 }
@@ -102,7 +102,7 @@ fn full_tables() {
             let number = host.clone().call_with(check::sound, call, &vec![3; needed]).number;
             match call {
                 Call::ExchangeShared4(..) => assert_eq!(number, 4),
-                Call::InsertNew { .. } => assert_eq!(number, if size == 1 { 6 } else { 5 }),
+                Call::InsertSurject { .. } => assert_eq!(number, if size == 1 { 6 } else { 5 }),
                 Call::Insert(..) => assert_eq!(number, 5),
                 Call::Union(..) => assert_eq!(number, if size == most { 4 } else { 0 }),
                 _ => assert_eq!(number, 0, "{call:?}"),
@@ -149,7 +149,7 @@ fn mixed_rings_are_refused_2() {
 fn each_sentence_of_soundness() {
     let mut start = two_runs();
     // a free slot and a free header, so that chains are there too
-    for call in [Call::InsertNew { payload: 6, value: 7 }, Call::RemoveElement(key(4, 1))] {
+    for call in [Call::InsertSurject { payload: 6, value: 7 }, Call::RemoveElement(key(4, 1))] {
         assert_eq!(start.call(call, &[]).number, 0);
     }
     let breaks: [(&str, fn(&mut Host)); 22] = [
