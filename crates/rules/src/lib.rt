@@ -33,6 +33,7 @@ pub const NEXT_FREE: u64 = 2;
 pub const LAST_GENERATION: u64 = 4294967295;
 
 // Tables and head: what the head holds of one table.
+#[repr(C)]
 pub struct Pool {
     pub capacity: u64,
     pub extent: u64,
@@ -96,6 +97,7 @@ impl Pool {
 }
 
 // Tables and head: the head of both tables.
+#[repr(C)]
 pub struct Head {
     pub elems: Pool,
     pub shared: Pool,
