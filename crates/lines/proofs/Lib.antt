@@ -4,3 +4,4 @@ pub mod Pieces
 pub mod Reading
 pub mod Letters
 pub mod Texts
+pub mod Obeying

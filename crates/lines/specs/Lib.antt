@@ -3,3 +3,4 @@ pub mod Put
 pub mod Words
 pub mod Lines
 pub mod Texts
+pub mod Obeys

@@ -9,8 +9,13 @@ ghost use Rattle.rules.specs.Answers.{saidNumber, saidInserted, saidJoined, sai
 ghost use Rattle.rules.specs.Script.{bytes, decimal, keyText, unionText, ringText, removeText, refusedText};
 ghost use Rattle.lines.specs.Put.{Put};
 ghost use Rattle.lines.specs.Texts.{spaced, textOf, restText, Places};
+ghost use Rattle.lines.specs.Obeys.{Told};
 use crate::text::put_decimal;
 use crate::text::put_text;
+use rules::Head;
+use rules::HeadInserted;
+use rules::HeadJoined;
+use rules::HeadRemoved;
 use rules::Inserted;
 use rules::Joined;
 use rules::Key;
@@ -38,6 +43,7 @@ fn number_of(refusal: Refusal) -> u64
 pub fn put_refusal(out: &mut [u8], at: usize, refusal: Refusal) -> usize
     requires { ⌜ at + 28 ≤ length (now out) ⌝ }
     ensures { λ r. ⌜ Put (now (out .entry)) at (refusedText (numberOf refusal)) (now (out .exit)) r ⌝ }
+    ensures { λ r. ⌜ r ≤ at + 28 ⌝ }
 {
     let number = put_text(out, at, b"refused ");
     put_decimal(out, number, number_of(refusal))
@@ -56,6 +62,7 @@ fn put_key(out: &mut [u8], at: usize, key: Key) -> usize
 pub fn put_inserted(out: &mut [u8], at: usize, answer: Inserted) -> usize
     requires { ⌜ at + 45 ≤ length (now out) ⌝ }
     ensures { λ r. ⌜ Put (now (out .entry)) at (textOf keyText (saidInserted answer) []) (now (out .exit)) r ⌝ }
+    ensures { λ r. ⌜ r ≤ at + 45 ⌝ }
 {
     match answer {
         Inserted::At(key) => {
@@ -69,6 +76,7 @@ pub fn put_inserted(out: &mut [u8], at: usize, answer: Inserted) -> usize
 pub fn put_joined(out: &mut [u8], at: usize, answer: Joined) -> usize
     requires { ⌜ at + 98 ≤ length (now out) ⌝ }
     ensures { λ r. ⌜ Put (now (out .entry)) at (textOf unionText (saidJoined answer) []) (now (out .exit)) r ⌝ }
+    ensures { λ r. ⌜ r ≤ at + 98 ⌝ }
 {
     match answer {
         Joined::Into { was, kept, moved } => {
@@ -102,6 +110,7 @@ fn put_rest(out: &mut [u8], at: usize, rest: Rest) -> usize
 pub fn put_removed(out: &mut [u8], at: usize, answer: Removed, over: bool) -> usize
     requires { ⌜ at + 57 ≤ length (now out) ⌝ }
     ensures { λ r. ⌜ Put (now (out .entry)) at (textOf removeText (saidRemoved answer over) []) (now (out .exit)) r ⌝ }
+    ensures { λ r. ⌜ r ≤ at + 57 ⌝ }
 {
     match answer {
         Removed::Out { payload, rest } => {
@@ -121,6 +130,7 @@ pub fn put_removed(out: &mut [u8], at: usize, answer: Removed, over: bool) -> us
 fn put_numbers(out: &mut [u8], at: usize, numbers: &[u64], count: usize) -> usize
     requires { ⌜ (count ≤ length (now numbers)) × (at + count * 21 ≤ length (now out)) ⌝ }
     ensures { λ r. ⌜ Put (now (out .entry)) at (spaced (take count (now (numbers .entry)))) (now (out .exit)) r ⌝ }
+    ensures { λ r. ⌜ r ≤ at + count * 21 ⌝ }
 {
     let mut next = at;
     let mut i = 0;
@@ -136,6 +146,7 @@ fn put_numbers(out: &mut [u8], at: usize, numbers: &[u64], count: usize) -> usiz
 pub fn put_ring(out: &mut [u8], at: usize, answer: Number, keys: &[u64]) -> usize
     requires { ⌜ (at + 28 + length (now keys) * 21 ≤ length (now out)) × Places (saidNumber answer false) (now keys) ⌝ }
     ensures { λ r. ⌜ Put (now (out .entry)) at (textOf ringText (saidNumber answer false) (now (keys .entry))) (now (out .exit)) r ⌝ }
+    ensures { λ r. ⌜ r ≤ at + 28 + length (now (keys .entry)) * 21 ⌝ }
 {
     match answer {
         Number::Is(n) => {
@@ -145,4 +156,41 @@ pub fn put_ring(out: &mut [u8], at: usize, answer: Number, keys: &[u64]) -> usiz
         }
         Number::Refused(refusal) => put_refusal(out, at, refusal),
     }
+}
+
+// The head after a line, and the place after what was printed.
+pub struct Obeyed {
+    pub head: Head,
+    pub next: usize,
+}
+
+// What a call hands back, told: its answer printed, beside the head.
+pub fn tell_inserted(out: &mut [u8], at: usize, r: HeadInserted) -> Obeyed
+    requires { ⌜ at + 45 ≤ length (now out) ⌝ }
+    ensures { λ o. ⌜ Told keyText (saidInserted (r .answer)) (r .head) (now (out .entry)) at 45 (now (out .exit)) o ⌝ }
+{
+    let head = r.head;
+    let answer = r.answer;
+    let next = put_inserted(out, at, answer);
+    Obeyed { head, next }
+}
+
+pub fn tell_joined(out: &mut [u8], at: usize, r: HeadJoined) -> Obeyed
+    requires { ⌜ at + 98 ≤ length (now out) ⌝ }
+    ensures { λ o. ⌜ Told unionText (saidJoined (r .answer)) (r .head) (now (out .entry)) at 98 (now (out .exit)) o ⌝ }
+{
+    let head = r.head;
+    let answer = r.answer;
+    let next = put_joined(out, at, answer);
+    Obeyed { head, next }
+}
+
+pub fn tell_removed(out: &mut [u8], at: usize, r: HeadRemoved) -> Obeyed
+    requires { ⌜ at + 57 ≤ length (now out) ⌝ }
+    ensures { λ o. ⌜ Told removeText (saidRemoved (r .answer) (r .over)) (r .head) (now (out .entry)) at 57 (now (out .exit)) o ⌝ }
+{
+    let head = r.head;
+    let answer = r.answer;
+    let next = put_removed(out, at, answer, r.over);
+    Obeyed { head, next }
 }

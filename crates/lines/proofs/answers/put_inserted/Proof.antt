@@ -33,13 +33,17 @@ same-length : tie.Need-same-length
 same-length c = search needs
 
 returns : tie.Need-returns
-returns c = rw (c .before .before .before .before .before .before .before .before .before .before .answer .given .1) (put-then (c .before .before .before .before .before .before .put-text .ensures) (c .before .before .put-key .ensures .0))
+returns c =
+    rw (c .before .before .before .before .before .before .before .before .before .before .answer .given .1)
+    (put-then (c .before .before .before .before .before .before .put-text .ensures) (c .before .before .put-key .ensures .0), search needs)
 
 same-length-2 : tie.Need-same-length-2
 same-length-2 c = search needs
 
 returns-2 : tie.Need-returns-2
-returns-2 c = rw (c .before .before .before .before .before .answer2 .given .1) (put-same (text-refused keyText (c .before .before .before .before .before .answer2 .given .0 .0) []) (c .before .before .put-refusal .ensures))
+returns-2 c =
+    rw (c .before .before .before .before .before .answer2 .given .1)
+    (put-same (text-refused keyText (c .before .before .before .before .before .answer2 .given .0 .0) []) (c .before .before .put-refusal .ensures .0), search needs)
 
 pub put-inserted-spec : {M : Type 1} → statement M
 put-inserted-spec =

@@ -54,13 +54,16 @@ same-length c = search needs
 returns : tie.Need-returns
 returns c =
     let start = put-then (put-then (c .before .before .before .before .before .before .before .before .before .before .before .before .before .before .before .before .before .before .before .before .before .before .before .before .put-text .ensures) (c .before .before .before .before .before .before .before .before .before .before .before .before .before .before .before .before .before .before .before .before .put-decimal .ensures .0)) (c .before .before .before .before .before .before .before .before .before .before .before .before .before .before .before .put-text2 .ensures) in
-    rw (c .before .before .before .before .before .before .before .before .before .before .before .before .before .before .before .before .before .before .before .before .before .before .before .before .before .before .before .before .answer .given .1) (put-then (put-then (put-key-then _ start (c .before .before .before .before .before .before .before .before .before .before .before .put-key .ensures .0)) (c .before .before .before .before .before .before .put-text3 .ensures)) (c .before .before .put-decimal2 .ensures .0))
+    rw (c .before .before .before .before .before .before .before .before .before .before .before .before .before .before .before .before .before .before .before .before .before .before .before .before .before .before .before .before .answer .given .1)
+    (put-then (put-then (put-key-then _ start (c .before .before .before .before .before .before .before .before .before .before .before .put-key .ensures .0)) (c .before .before .before .before .before .before .put-text3 .ensures)) (c .before .before .put-decimal2 .ensures .0), search needs)
 
 same-length-2 : tie.Need-same-length-2
 same-length-2 c = search needs
 
 returns-2 : tie.Need-returns-2
-returns-2 c = rw (c .before .before .before .before .before .answer2 .given .1) (put-same (text-refused unionText (c .before .before .before .before .before .answer2 .given .0 .0) []) (c .before .before .put-refusal .ensures))
+returns-2 c =
+    rw (c .before .before .before .before .before .answer2 .given .1)
+    (put-same (text-refused unionText (c .before .before .before .before .before .answer2 .given .0 .0) []) (c .before .before .put-refusal .ensures .0), search needs)
 
 pub put-joined-spec : {M : Type 1} → statement M
 put-joined-spec =

@@ -49,7 +49,7 @@ same-length : tie.Need-same-length Inv-loop μ-loop
 same-length c = search needs
 
 returns : tie.Need-returns Inv-loop μ-loop
-returns c = let e : c .before .loop .i ≡ c .before .before .before .before .args .count = omega (arith, c .before .loop .inv .0, c .loop-test .left) in rw e at (c .before .loop .inv .2 .put)
+returns c = let e : c .before .loop .i ≡ c .before .before .before .before .args .count = omega (arith, c .before .loop .inv .0, c .loop-test .left) in (rw e at (c .before .loop .inv .2 .put), rw e at (c .before .loop .inv .2 .room))
 
 pub put-numbers-spec : {M : Type 1} → statement M
 put-numbers-spec =

@@ -24,7 +24,9 @@ same-length : tie.Need-same-length
 same-length c = search needs
 
 returns : tie.Need-returns
-returns c = rw (← c .before .before .before .number-of .ensures) (put-then (c .before .before .before .before .before .before .before .put-text .ensures) (c .before .before .put-decimal .ensures .0))
+returns c =
+    rw (← c .before .before .before .number-of .ensures)
+    (put-then (c .before .before .before .before .before .before .before .put-text .ensures) (c .before .before .put-decimal .ensures .0), search needs)
 
 pub put-refusal-spec : {M : Type 1} → statement M
 put-refusal-spec =

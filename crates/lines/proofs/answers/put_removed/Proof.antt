@@ -39,7 +39,7 @@ same-length c = search needs
 returns : tie.Need-returns
 returns c =
     rw (c .before .before .before .before .before .before .before .before .before .before .before .before .before .before .before .before .before .before .before .before .answer .given .1, c .before .before .before .before .before .if1 .taken)
-    (put-then (put-then (put-then (c .before .before .before .before .before .before .before .before .before .before .before .before .before .before .before .before .put-text .ensures) (c .before .before .before .before .before .before .before .before .before .before .before .before .put-decimal .ensures .0)) (c .before .before .before .before .before .before .before .before .put-rest .ensures .0)) (c .before .before .put-text2 .ensures))
+    (put-then (put-then (put-then (c .before .before .before .before .before .before .before .before .before .before .before .before .before .before .before .before .put-text .ensures) (c .before .before .before .before .before .before .before .before .before .before .before .before .put-decimal .ensures .0)) (c .before .before .before .before .before .before .before .before .put-rest .ensures .0)) (c .before .before .put-text2 .ensures), search needs)
 
 enum-known-answer-2 : tie.Need-enum-known-answer-2
 enum-known-answer-2 c = search needs
@@ -53,13 +53,15 @@ same-length-2 c = search needs
 returns-2 : tie.Need-returns-2
 returns-2 c =
     rw (c .before .before .before .before .before .before .before .before .before .before .before .before .before .before .before .answer .given .1, c .if1 .left)
-    (put-then (put-then (put-then (c .before .before .before .before .before .before .before .before .before .before .before .put-text .ensures) (c .before .before .before .before .before .before .before .put-decimal .ensures .0)) (c .before .before .before .put-rest .ensures .0)) (put-none _ _))
+    (put-then (put-then (put-then (c .before .before .before .before .before .before .before .before .before .before .before .put-text .ensures) (c .before .before .before .before .before .before .before .put-decimal .ensures .0)) (c .before .before .before .put-rest .ensures .0)) (put-none _ _), search needs)
 
 same-length-3 : tie.Need-same-length-3
 same-length-3 c = search needs
 
 returns-3 : tie.Need-returns-3
-returns-3 c = rw (c .before .before .before .before .before .answer2 .given .1) (put-same (text-refused removeText (c .before .before .before .before .before .answer2 .given .0 .0) []) (c .before .before .put-refusal .ensures))
+returns-3 c =
+    rw (c .before .before .before .before .before .answer2 .given .1)
+    (put-same (text-refused removeText (c .before .before .before .before .before .answer2 .given .0 .0) []) (c .before .before .put-refusal .ensures .0), search needs)
 
 pub put-removed-spec : {M : Type 1} → statement M
 put-removed-spec =

@@ -42,13 +42,18 @@ same-length : tie.Need-same-length
 same-length c = search needs
 
 returns : tie.Need-returns
-returns c = rw (c .before .before .before .before .before .before .before .before .before .before .before .before .before .before .answer .given .1) (put-then (put-then (c .before .before .before .before .before .before .before .before .before .before .put-text .ensures) (c .before .before .before .before .before .before .put-decimal .ensures .0)) (c .before .before .put-numbers .ensures))
+returns c =
+    let p : c .before .before .before .before .before .before .before .before .before .before .before .before .before .before .answer .given .0 .0 * 2 ≤ length (c .before .before .before .before .before .before .before .before .before .before .before .before .before .before .before .before .before .before .args .keys .now) = rw (c .before .before .before .before .before .before .before .before .before .before .before .before .before .before .answer .given .1) at (c .before .before .before .before .before .before .before .before .before .before .before .before .before .before .before .before .before .before .pre .1) in
+    rw (c .before .before .before .before .before .before .before .before .before .before .before .before .before .before .answer .given .1)
+    (put-then (put-then (c .before .before .before .before .before .before .before .before .before .before .put-text .ensures) (c .before .before .before .before .before .before .put-decimal .ensures .0)) (c .before .before .put-numbers .ensures .0), omega (arith, c .before .before .put-numbers .ensures .1, c .before .before .before .before .before .before .put-decimal .ensures .1, c .before .before .before .before .before .before .before .before .before .before .put-text .ensures .past))
 
 same-length-2 : tie.Need-same-length-2
 same-length-2 c = search needs
 
 returns-2 : tie.Need-returns-2
-returns-2 c = rw (c .before .before .before .before .before .answer2 .given .1) (put-same (text-refused ringText (c .before .before .before .before .before .answer2 .given .0 .0) (c .before .before .before .before .before .before .before .before .before .args .keys .now)) (c .before .before .put-refusal .ensures))
+returns-2 c =
+    rw (c .before .before .before .before .before .answer2 .given .1)
+    (put-same (text-refused ringText (c .before .before .before .before .before .answer2 .given .0 .0) (c .before .before .before .before .before .before .before .before .before .args .keys .now)) (c .before .before .put-refusal .ensures .0), search needs)
 
 pub put-ring-spec : {M : Type 1} → statement M
 put-ring-spec =

@@ -1,0 +1,83 @@
+// A line obeyed: its call is made at the inner door, and its answer printed.
+ghost use Prim.Native.Nat.{_+_, _*_, _≤_};
+ghost use mathlib.Core.Path.{_≡_};
+ghost use lib.ListN.{length};
+ghost use Rattle.rules.specs.Tables.{stateOf};
+ghost use Rattle.rules.specs.Drains.{keyWidth};
+ghost use Rattle.rules.specs.Calls.{Ready};
+ghost use Rattle.rules.specs.Script.{capacity, lineReply};
+ghost use Rattle.lines.specs.Lines.{replyOf};
+ghost use Rattle.lines.specs.Obeys.{replyMost, Obeys, ObeysLine};
+use crate::answers::Obeyed;
+use crate::answers::put_refusal;
+use crate::answers::put_ring;
+use crate::answers::tell_inserted;
+use crate::answers::tell_joined;
+use crate::answers::tell_removed;
+use crate::read::Line;
+use crate::read::read_line;
+use crate::text::put_text;
+use rules::Head;
+use rules::Refusal;
+
+// What is printed goes into `out` from `at` on; `keys` is lent to list a ring.
+pub fn obey_line(
+    head: Head,
+    elems: &mut [u64],
+    shared: &mut [u64],
+    keys: &mut [u64],
+    out: &mut [u8],
+    at: usize,
+    line: Line,
+) -> Obeyed
+    requires { ⌜ Ready (stateOf head (now elems) (now shared)) × (length (now keys) ≡ capacity * keyWidth) × (at + replyMost ≤ length (now out)) ⌝ }
+    ensures { λ r. ⌜ Obeys (replyOf (stateOf head (now (elems .entry)) (now (shared .entry))) line) (stateOf (r .head) (now (elems .exit)) (now (shared .exit))) (now (out .entry)) at (now (out .exit)) (r .next) ⌝ }
+{
+    match line {
+        Line::NewRun { payload, value } => {
+            let r = runs::insert_surject(head, elems, shared, payload, value);
+            tell_inserted(out, at, r)
+        }
+        Line::Insert { target, payload } => {
+            let r = runs::insert(head, elems, shared, target, payload);
+            tell_inserted(out, at, r)
+        }
+        Line::Union { first, second } => {
+            let r = runs::union(head, elems, shared, first, second);
+            tell_joined(out, at, r)
+        }
+        Line::List(key) => {
+            let answer = drains::list(head, elems, shared, key, keys);
+            let next = put_ring(out, at, answer, keys);
+            Obeyed { head, next }
+        }
+        Line::Remove(key) => {
+            let r = runs::remove_element(head, elems, shared, key);
+            tell_removed(out, at, r)
+        }
+        Line::Malformed => {
+            let next = put_refusal(out, at, Refusal::Malformed);
+            Obeyed { head, next }
+        }
+    }
+}
+
+// A line of bytes, without its newline: what Script prints of it, and a newline.
+pub fn obey_bytes(
+    head: Head,
+    elems: &mut [u64],
+    shared: &mut [u64],
+    keys: &mut [u64],
+    out: &mut [u8],
+    at: usize,
+    line: &[u8],
+) -> Obeyed
+    requires { ⌜ Ready (stateOf head (now elems) (now shared)) × (length (now keys) ≡ capacity * keyWidth) × (at + replyMost ≤ length (now out)) ⌝ }
+    ensures { λ r. ⌜ ObeysLine (lineReply (stateOf head (now (elems .entry)) (now (shared .entry))) (now (line .entry))) (stateOf (r .head) (now (elems .exit)) (now (shared .exit))) (now (out .entry)) at (now (out .exit)) (r .next) ⌝ }
+{
+    let read = read_line(line);
+    let o = obey_line(head, elems, shared, keys, out, at, read);
+    let head = o.head;
+    let next = put_text(out, o.next, b"\n");
+    Obeyed { head, next }
+}
