@@ -5,3 +5,5 @@ pub mod Reading
 pub mod Letters
 pub mod Texts
 pub mod Obeying
+pub mod Gathering
+pub mod Follows

@@ -12,6 +12,7 @@ use lib.Seq.{slice, slice-empty, slice-cons, drop-cons, drop-length, drop-append
 use Rattle.rules.specs.Notation.{if_then_else_, _==_}
 use Rattle.rules.specs.Script.{space, prepend, pieces, number, numbers, both}
 use Rattle.lines.specs.Words.{wordsAt, WordAt}
+use Rattle.lines.specs.Stream.{onto}
 
 -- ---- parts of a list
 
@@ -29,11 +30,6 @@ slice-suc f i l h g =
 
 -- ---- pieces
 
--- bytes put in front of the first of some pieces
-abbrev pub onto : List ℕ → List (List ℕ) → List (List ℕ)
-onto xs [] = xs ∷ []
-onto xs (p ∷ ps) = (xs ++ p) ∷ ps
-
 onto-prepend : (xs : List ℕ) (b : ℕ) (ps : List (List ℕ)) → onto xs (prepend b ps) ≡ onto (xs ++ b ∷ []) ps
 onto-prepend xs b [] = refl
 onto-prepend xs b (p ∷ ps) = ap (λ (w : List ℕ). w ∷ ps) (sym (append-snoc xs b p))
@@ -42,7 +38,7 @@ prepended : (b : ℕ) (ps : List (List ℕ)) → onto [] (prepend b ps) ≡ prep
 prepended b [] = refl
 prepended b (p ∷ ps) = refl
 
-onto-nothing : (separator : ℕ) (bs : List ℕ) → onto [] (pieces separator bs) ≡ pieces separator bs
+pub onto-nothing : (separator : ℕ) (bs : List ℕ) → onto [] (pieces separator bs) ≡ pieces separator bs
 unfolding pieces
 onto-nothing separator [] = refl
 onto-nothing separator (b ∷ bs) = go (b == separator)
@@ -131,7 +127,7 @@ module _ (line : List ℕ) (at most : ℕ) (mosts : List ℕ) where
   unfolding numbers
   numbers-word end found w e = rw (w .words, e)
 
-pieces-some : (separator : ℕ) (bs : List ℕ) → (p : List ℕ) × (ps : List (List ℕ)) × (pieces separator bs ≡ p ∷ ps)
+pub pieces-some : (separator : ℕ) (bs : List ℕ) → (p : List ℕ) × (ps : List (List ℕ)) × (pieces separator bs ≡ p ∷ ps)
 unfolding pieces
 pieces-some separator [] = ([], [], refl)
 pieces-some separator (b ∷ bs) = go (b == separator) (pieces separator bs)

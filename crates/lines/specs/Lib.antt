@@ -4,3 +4,4 @@ pub mod Words
 pub mod Lines
 pub mod Texts
 pub mod Obeys
+pub mod Stream

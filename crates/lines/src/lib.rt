@@ -2,6 +2,7 @@
 mod answers;
 mod obey;
 mod read;
+mod stream;
 mod text;
 mod words;
 
@@ -9,3 +10,5 @@ pub use answers::Obeyed;
 pub use obey::obey_bytes;
 pub use read::Line;
 pub use read::read_line;
+pub use stream::Gathered;
+pub use stream::gather;

@@ -1,0 +1,24 @@
+use Rattle.lines.proofs.Gathering.{keep-room, keep-full}
+use borrow.Author.Needs.{needs}
+use Rattle.lines.proofs.stream.keep.Statement.{statement}
+use Rattle.lines.proofs.stream.keep.Tie as tie
+use Rattle.lines.proofs.stream.keep.Reads as reads
+use Rattle.lines.proofs.stream.keep.Lts as lts
+
+slice-write-line : tie.Need-slice-write-line
+slice-write-line c = search needs
+
+add-result : tie.Need-add-result
+add-result c = search needs
+
+same-length : tie.Need-same-length
+same-length c = search needs
+
+returns : tie.Need-returns
+returns c = keep-room _ _ _ (c .if1 .taken)
+
+returns-2 : tie.Need-returns-2
+returns-2 c = keep-full _ _ _ (c .before .pre) (c .if1 .left)
+
+pub keep-spec : {M : Type 1} → statement M
+keep-spec = tie.close (tie.spec slice-write-line add-result same-length returns returns-2)
