@@ -1,15 +1,25 @@
 // The host's door: shape (1) and soundness (2), then the call at the inner door. Nothing is required of the caller.
 use rules::Done;
+use rules::Exchanged;
 use rules::Head;
+use rules::HeadDone;
+use rules::HeadInserted;
+use rules::HeadJoined;
+use rules::HeadNumber;
+use rules::HeadRemoved;
+use rules::Inserted;
+use rules::Joined;
 use rules::Key;
 use rules::Number;
 use rules::Refusal;
+use rules::Removed;
 use rules::Same;
+ghost use mathlib.Core.Path.{_≡_};
 ghost use mathlib.Core.Bool.{false};
 ghost use mathlib.Core.List.{[]};
 ghost use Rattle.rules.specs.Tables.{stateOf};
-ghost use Rattle.rules.specs.Answers.{leaves, saidDone, saidNumber, saidSame};
-ghost use Rattle.rules.specs.Calls.{AtDoor, check, lenSurject, inSameSurject, getElement, getShared, setElement, setShared};
+ghost use Rattle.rules.specs.Answers.{leaves, saidDone, saidNumber, saidSame, saidExchanged, afterDone, afterNumber, afterInserted, afterJoined, afterRemoved};
+ghost use Rattle.rules.specs.Calls.{AtDoor, freshStep, check, lenSurject, inSameSurject, getElement, getShared, setElement, setShared, newRun, insert, union, remove, removeShared, list, drain, drainAll, clear, exchange, compress};
 ghost use Rattle.door.specs.Gate.{Gated};
 
 // Refusals, order, 1 and 2.
@@ -33,6 +43,19 @@ pub fn check(head: Head, elems: &[u64], shared: &[u64]) -> Done
         Done::Refused(n) => Done::Refused(n),
         Done::Done => Done::Done,
     }
+}
+
+// Rules 2, fresh: it has no door but its own, and gives only 1.
+pub fn fresh(
+    head: Head,
+    frames: u64,
+    headers: u64,
+    elems: &mut [u64],
+    shared: &mut [u64],
+) -> HeadDone
+    ensures { λ r. ⌜ afterDone r (now (elems .exit)) (now (shared .exit)) [] ≡ freshStep (stateOf head (now (elems .entry)) (now (shared .entry))) frames headers ⌝ }
+{
+    drains::fresh(head, frames, headers, elems, shared)
 }
 
 // Rules 1, reads and sets: the size of a class.
@@ -92,5 +115,114 @@ pub fn set_shared(head: Head, elems: &[u64], shared: &mut [u64], key: Key, value
     match gate(head, elems, shared) {
         Done::Refused(n) => Number::Refused(n),
         Done::Done => runs::set_shared(head, elems, shared, key, value),
+    }
+}
+
+// Rules 4: new run.
+pub fn insert_surject(
+    head: Head,
+    elems: &mut [u64],
+    shared: &mut [u64],
+    payload: u64,
+    value: u64,
+) -> HeadInserted
+    ensures { λ r. ⌜ AtDoor (stateOf head (now (elems .entry)) (now (shared .entry))) [] (newRun payload value) (afterInserted r (now (elems .exit)) (now (shared .exit)) []) ⌝ }
+{
+    match gate(head, elems, shared) {
+        Done::Refused(n) => HeadInserted {
+            head,
+            answer: Inserted::Refused(n),
+        },
+        Done::Done => runs::insert_surject(head, elems, shared, payload, value),
+    }
+}
+
+// Rules 5: insert.
+pub fn insert(
+    head: Head,
+    elems: &mut [u64],
+    shared: &mut [u64],
+    at: Key,
+    payload: u64,
+) -> HeadInserted
+    ensures { λ r. ⌜ AtDoor (stateOf head (now (elems .entry)) (now (shared .entry))) [] (insert at payload) (afterInserted r (now (elems .exit)) (now (shared .exit)) []) ⌝ }
+{
+    match gate(head, elems, shared) {
+        Done::Refused(n) => HeadInserted {
+            head,
+            answer: Inserted::Refused(n),
+        },
+        Done::Done => runs::insert(head, elems, shared, at, payload),
+    }
+}
+
+// Rules 6: union.
+pub fn union(head: Head, elems: &mut [u64], shared: &mut [u64], j: Key, k: Key) -> HeadJoined
+    ensures { λ r. ⌜ AtDoor (stateOf head (now (elems .entry)) (now (shared .entry))) [] (union j k) (afterJoined r (now (elems .exit)) (now (shared .exit)) []) ⌝ }
+{
+    match gate(head, elems, shared) {
+        Done::Refused(n) => HeadJoined {
+            head,
+            answer: Joined::Refused(n),
+        },
+        Done::Done => runs::union(head, elems, shared, j, k),
+    }
+}
+
+// Rules 7: remove.
+pub fn remove_element(head: Head, elems: &mut [u64], shared: &mut [u64], key: Key) -> HeadRemoved
+    ensures { λ r. ⌜ AtDoor (stateOf head (now (elems .entry)) (now (shared .entry))) [] (remove key) (afterRemoved r (now (elems .exit)) (now (shared .exit)) []) ⌝ }
+{
+    match gate(head, elems, shared) {
+        Done::Refused(n) => HeadRemoved {
+            head,
+            answer: Removed::Refused(n),
+            over: false,
+        },
+        Done::Done => runs::remove_element(head, elems, shared, key),
+    }
+}
+
+// Rules 12: clear.
+pub fn clear(head: Head, elems: &mut [u64], shared: &mut [u64]) -> HeadDone
+    ensures { λ r. ⌜ AtDoor (stateOf head (now (elems .entry)) (now (shared .entry))) [] clear (afterDone r (now (elems .exit)) (now (shared .exit)) []) ⌝ }
+{
+    match gate(head, elems, shared) {
+        Done::Refused(n) => HeadDone {
+            head,
+            answer: Done::Refused(n),
+            over: false,
+        },
+        Done::Done => drains::clear(head, elems, shared),
+    }
+}
+
+// Rules 9: list.
+pub fn list(head: Head, elems: &[u64], shared: &[u64], key: Key, out: &mut [u64]) -> Number
+    ensures { λ r. ⌜ AtDoor (stateOf head (now (elems .entry)) (now (shared .entry))) (now (out .entry)) (list key) (leaves head (now (elems .entry)) (now (shared .entry)) (now (out .exit)) (saidNumber r false)) ⌝ }
+{
+    match gate(head, elems, shared) {
+        Done::Refused(n) => Number::Refused(n),
+        Done::Done => drains::list(head, elems, shared, key, out),
+    }
+}
+
+// Rules 14: compress canonical.
+pub fn compress_canonical(
+    head: Head,
+    elems: &mut [u64],
+    shared: &mut [u64],
+    scratch: &mut [u64],
+    reset: bool,
+) -> HeadDone
+    ensures { λ r. ⌜ AtDoor (stateOf head (now (elems .entry)) (now (shared .entry))) (now (scratch .entry)) (compress reset) (afterDone r (now (elems .exit)) (now (shared .exit)) (now (scratch .exit))) ⌝ }
+{
+    match gate(head, elems, shared) {
+        Done::Refused(n) => HeadDone {
+            head,
+            answer: Done::Refused(n),
+            over: false,
+        },
+        Done::Done => compress::compress_canonical(head, elems, shared, scratch, reset),
     }
 }
