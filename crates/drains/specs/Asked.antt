@@ -1,10 +1,13 @@
 -- What the functions over whole runs ask.
-use Prim.Native.Nat.{ℕ}
+use Prim.Native.Nat.{ℕ, _+_, _*_, _≤_, _<_}
 use mathlib.Core.Path.{_≡_}
 use mathlib.Core.List.{List}
 use lib.ListN.{length}
-use Rattle.rules.specs.Tables.{frameWidth, nextOf}
+use Rattle.rules.specs.Tables.{frameWidth, nextOf, State, sizeAt}
+use Rattle.rules.specs.Drains.{recordWidth}
+use Rattle.rules.specs.Calls.{Ready}
 use Rattle.rules.proofs.laws.Lists.{All, NoDup, Walk}
+use Rattle.rules.proofs.laws.Safe.{LiveSlot}
 use Rattle.slots.specs.Asked.{Within}
 
 -- `n` frames along next from `x` stand in the table, none twice
@@ -15,3 +18,21 @@ pub record Apart (e : List ℕ) (n x : ℕ) : Type 0 where
   pub once : NoDup slots
   pub each : All (Within frameWidth e) slots
   pub sized : length slots ≡ n
+
+-- a run of `n` frames that begins at `x`, where there are any
+pub record Run (st : State) (n x : ℕ) : Type 0 where
+  pub ready : Ready st
+  pub live : 0 < n → LiveSlot st x
+  pub size : 0 < n → sizeAt st x ≡ n
+
+-- and room for its records past the first `written` places
+pub record Drains (st : State) (n x : ℕ) (out : List ℕ) (written : ℕ) : Type 0 where
+  pub run : Run st n x
+  pub room : (written + n) * recordWidth ≤ length out
+
+-- Rules 11: a slot is met, with room for the records of all frames that are left
+pub record Visits (st : State) (slot : ℕ) (out : List ℕ) (written : ℕ) : Type 0 where
+  pub ready : Ready st
+  pub low : 1 ≤ slot
+  pub high : slot ≤ st .head .elems .extent
+  pub room : (written + st .head .elems .live) * recordWidth ≤ length out
