@@ -1,12 +1,12 @@
 -- Pieces of the MIR that both walks go through.
 use Prim.Native.Nat.{ℕ}
 use mathlib.Core.List.{[], _∷_}
-use mir.Syntax.{Lifetime, named, erased, mut, w64, Ty, tyInt, tyRef, tyStruct, tcons, tnil, Step, deref, field, Place, place, Opd, copy, Rv, rvOpd, addrOf, aggregate, Body, seq, assign, call, return, Local, local, valueLocal, Name}
+use mir.Syntax.{Lifetime, named, mut, w64, Ty, tyInt, tyRef, tyStruct, tcons, tnil, deref, field, Place, place, Opd, copy, addrOf, aggregate, Body, seq, assign, Local, local, valueLocal}
 use denote.Memory.{pointee}
 use Rattle.rules.proofs.Head as T
 use Rattle.rules.proofs.Head.Laws as T′
 
--- the local of a value, of the head lent in place, of a table and of the pointer to one
+-- a local of a type, of the head lent in place, of a table (MIR names its type `&[]`), and the type of a pointer to one
 abbrev pub holds : Ty → Local
 holds τ = local τ valueLocal
 
@@ -29,6 +29,6 @@ whole-of i = copy (place i [])
 abbrev pub part-of : ℕ → ℕ → Opd
 part-of i f = copy (place i (field f ∷ []))
 
--- table i is lent on: its pointer goes to local j, and the table to the local after it
+-- the table in local i is lent on: its pointer goes to local j, pointer and length to local k
 abbrev pub lends-on : (i j k : ℕ) → Body → Body
 lends-on i j k rest = seq (assign (place j []) (addrOf (place i (field 0 ∷ deref (tyInt w64) ∷ [])))) (seq (assign (place k []) (aggregate (whole-of j ∷ part-of i 1 ∷ []))) rest)
