@@ -12,6 +12,7 @@ use Rattle.rules.specs.Refusals.{numberOf, Said, Outcome, saidRefused, saidAcce
 use Rattle.rules.specs.Answers.{leaves}
 use Rattle.rules.specs.Calls.{Call, AtDoor, freshStep}
 use Rattle.host.specs.Host.{headOf, values, Left, left, shown, Answered, AtHost, AtFresh}
+use Rattle.host.specs.InPlace.{AtHead, leftAt}
 
 -- a refused call leaves `out` as it was
 kept : (r : Refusal) (a b : List ℕ) → b ≡ (if numberOf r == 0 then a else b)
@@ -55,3 +56,10 @@ freshened capacity classes head elems shared h next said r packed elems′ share
     let told : left r packed elems′ shared′ [] [] ≡ shown values [] (leaves next elems′ shared′ [] said) =
     λ i. record { number = a .number i; state = stateOf (q i) elems′ shared′; lent = []; out = a .out i } in
     record { same = told ∙ ap (shown values []) (d ∙ ap (λ (k : Head). freshStep (stateOf k elems shared) capacity classes) p) }
+
+-- the same of an entry whose head is lent in place
+pub held : (c : Call) (numbers : Said → List ℕ) (head : Head) (elems shared out : List ℕ) (next : Head) (said : Said) (r : ℕ) (elems′ shared′ out′ : List ℕ)
+    → AtDoor (stateOf head elems shared) [] c (leaves next elems′ shared′ [] said)
+    → Answered numbers said out r out′
+    → AtHead c numbers head elems shared out (leftAt r next elems′ shared′ out′)
+held c numbers head elems shared out next said r elems′ shared′ out′ d a = record { outcome = leaves next elems′ shared′ [] said; door = d; same = rw (a .number, a .out) }

@@ -1,6 +1,7 @@
 // The entries that a host calls (include/doorsedge.h): each takes the lent head apart, calls the door, and stores what it hands back.
 mod answers;
 mod head;
+mod in_place;
 mod reads;
 mod sets;
 mod whole;
