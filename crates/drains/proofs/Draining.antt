@@ -68,6 +68,9 @@ pub used-slot : (st : State) (x : ℕ) → LiveSlot st x → view st .gen x ≢ 
 used-slot st x l = omega (arith, l .used)
 
 -- what a frame's removal asks
+pub frame-at : (st : State) → Ready st → (x : ℕ) → view st .gen x ≢ 0 → OnLive st x
+frame-at st R x h = let s = safe st R in let l = live-slot st R x h in record { safe = s; live = l; frame = s .frames x l }
+
 pub run-at : (st : State) (n x : ℕ) → Run st n x → 0 < n → OnLive st x
 run-at st n x r h = let s = safe st (r .ready) in let l = r .live h in record { safe = s; live = l; frame = s .frames x l }
 

@@ -141,8 +141,14 @@ none-left st R below =
     f (below (r .0) (Pools.live-in (W .elems) (r .0) f .1)))
 
 -- a slot that is no frame's has no class
-pub size-free : (st : State) → Ready st → (s : ℕ) → view st .gen s ≡ 0 → sizeAt st s ≡ 0
+size-free : (st : State) → Ready st → (s : ℕ) → view st .gen s ≡ 0 → sizeAt st s ≡ 0
 size-free st R s e = let W = working st R in ap (view st .count) (W .zeros s e .1) ∙ W .shared .none
+
+-- so nothing goes with it
+pub slot-free : (st : State) (s : ℕ) (out : List ℕ) (written : ℕ) → Ready st → view st .gen s ≡ 0
+    → (st ≡ drained (sizeAt st s) st s) × (out ≡ sets out (written * recordWidth) (drainRecords (sizeAt st s) st s))
+unfolding drained drainRecords
+slot-free st s out written R e = let z = size-free st R s e in (rw z, rw z)
 
 all-step : (m : ℕ) (st : State) (s : ℕ) → 0 < m → lowest st ≡ s → drainRecords (sizeAt st s) st s ++ allRecords (m - 1) (drained (sizeAt st s) st s) ≡ allRecords m st
 unfolding allRecords
