@@ -108,3 +108,29 @@ pub extern "C" fn doorsedge_get_shared(
     );
     answers::number(answer, out)
 }
+
+// Rules 9: the keys of the run, in ring order from the key.
+#[no_mangle]
+pub extern "C" fn doorsedge_list(
+    head: &[u64; 9],
+    elems: &[u64],
+    shared: &[u64],
+    slot: u64,
+    generation: u64,
+    places: &mut [u64],
+    out: &mut [u64; 1],
+) -> u64
+    ensures { λ r. ⌜ AtHost (list (keyOf slot generation)) values (now (head .entry)) (now (elems .entry)) (now (shared .entry)) (now (places .entry)) (now (out .entry)) (left r (now (head .entry)) (now (elems .entry)) (now (shared .entry)) (now (places .exit)) (now (out .exit))) ⌝ }
+{
+    let answer = door::list(
+        unpack(*head),
+        elems,
+        shared,
+        Key {
+            slot: slot,
+            generation: generation,
+        },
+        places,
+    );
+    answers::number(answer, out)
+}

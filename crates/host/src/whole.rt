@@ -8,6 +8,24 @@ ghost use mathlib.Core.List.{[]};
 ghost use Rattle.rules.specs.Calls.{check, drain, drainAll, clear, compress};
 ghost use Rattle.host.specs.Host.{keyOf, AtHost, left, values, valuesOver, isSet, AtFresh};
 
+// Rules 2: empty tables of these capacities; the head and the tables may hold anything.
+#[no_mangle]
+pub extern "C" fn doorsedge_fresh(
+    head: &mut [u64; 9],
+    frames: u64,
+    headers: u64,
+    elems: &mut [u64],
+    shared: &mut [u64],
+) -> u64
+    ensures { λ r. ⌜ AtFresh frames headers (now (head .entry)) (now (elems .entry)) (now (shared .entry)) (left r (now (head .exit)) (now (elems .exit)) (now (shared .exit)) [] []) ⌝ }
+{
+    let step = door::fresh(unpack(*head), frames, headers, elems, shared);
+    let next = step.head;
+    *head = pack(next);
+    let answer = step.answer;
+    answers::plain(answer)
+}
+
 // Rules 1, the check: whether head and tables are a sound state.
 #[no_mangle]
 pub extern "C" fn doorsedge_check(head: &[u64; 9], elems: &[u64], shared: &[u64]) -> u64
@@ -15,4 +33,40 @@ pub extern "C" fn doorsedge_check(head: &[u64; 9], elems: &[u64], shared: &[u64]
 {
     let answer = door::check(unpack(*head), elems, shared);
     answers::plain(answer)
+}
+
+// Rules 12: empty tables, the generation one higher.
+#[no_mangle]
+pub extern "C" fn doorsedge_clear(
+    head: &mut [u64; 9],
+    elems: &mut [u64],
+    shared: &mut [u64],
+    out: &mut [u64; 1],
+) -> u64
+    ensures { λ r. ⌜ AtHost (clear) valuesOver (now (head .entry)) (now (elems .entry)) (now (shared .entry)) [] (now (out .entry)) (left r (now (head .exit)) (now (elems .exit)) (now (shared .exit)) [] (now (out .exit))) ⌝ }
+{
+    let step = door::clear(unpack(*head), elems, shared);
+    let next = step.head;
+    *head = pack(next);
+    let answer = step.answer;
+    answers::over_only(answer, step.over, out)
+}
+
+// Rules 14: moves all frames down, runs in canonical order.
+#[no_mangle]
+pub extern "C" fn doorsedge_compress_canonical(
+    head: &mut [u64; 9],
+    elems: &mut [u64],
+    shared: &mut [u64],
+    reset: u64,
+    scratch: &mut [u64],
+    out: &mut [u64; 1],
+) -> u64
+    ensures { λ r. ⌜ AtHost (compress (isSet reset)) valuesOver (now (head .entry)) (now (elems .entry)) (now (shared .entry)) (now (scratch .entry)) (now (out .entry)) (left r (now (head .exit)) (now (elems .exit)) (now (shared .exit)) (now (scratch .exit)) (now (out .exit))) ⌝ }
+{
+    let step = door::compress_canonical(unpack(*head), elems, shared, scratch, reset != 0);
+    let next = step.head;
+    *head = pack(next);
+    let answer = step.answer;
+    answers::over_only(answer, step.over, out)
 }

@@ -1,0 +1,117 @@
+// Frames in and out.
+use crate::answers;
+use crate::head::pack;
+use crate::head::unpack;
+use rules::Key;
+ghost use mathlib.Core.Path.{_≡_};
+ghost use mathlib.Core.List.{[]};
+ghost use Rattle.rules.specs.Calls.{newRun, insert, union, remove, removeShared};
+ghost use Rattle.host.specs.Host.{keyOf, AtHost, left, values, valuesOver, removalNumbers};
+
+// Rules 4: begins a run.
+#[no_mangle]
+pub extern "C" fn doorsedge_insert_surject(
+    head: &mut [u64; 9],
+    elems: &mut [u64],
+    shared: &mut [u64],
+    payload: u64,
+    value: u64,
+    out: &mut [u64; 2],
+) -> u64
+    ensures { λ r. ⌜ AtHost (newRun payload value) values (now (head .entry)) (now (elems .entry)) (now (shared .entry)) [] (now (out .entry)) (left r (now (head .exit)) (now (elems .exit)) (now (shared .exit)) [] (now (out .exit))) ⌝ }
+{
+    let step = door::insert_surject(unpack(*head), elems, shared, payload, value);
+    let next = step.head;
+    *head = pack(next);
+    let answer = step.answer;
+    answers::key(answer, out)
+}
+
+// Rules 5: puts a frame in, immediately after the key's.
+#[no_mangle]
+pub extern "C" fn doorsedge_insert(
+    head: &mut [u64; 9],
+    elems: &mut [u64],
+    shared: &mut [u64],
+    slot: u64,
+    generation: u64,
+    payload: u64,
+    out: &mut [u64; 2],
+) -> u64
+    ensures { λ r. ⌜ AtHost (insert (keyOf slot generation) payload) values (now (head .entry)) (now (elems .entry)) (now (shared .entry)) [] (now (out .entry)) (left r (now (head .exit)) (now (elems .exit)) (now (shared .exit)) [] (now (out .exit))) ⌝ }
+{
+    let step = door::insert(
+        unpack(*head),
+        elems,
+        shared,
+        Key {
+            slot: slot,
+            generation: generation,
+        },
+        payload,
+    );
+    let next = step.head;
+    *head = pack(next);
+    let answer = step.answer;
+    answers::key(answer, out)
+}
+
+// Rules 6: joins two runs.
+#[no_mangle]
+pub extern "C" fn doorsedge_union(
+    head: &mut [u64; 9],
+    elems: &mut [u64],
+    shared: &mut [u64],
+    slot0: u64,
+    generation0: u64,
+    slot1: u64,
+    generation1: u64,
+    out: &mut [u64; 4],
+) -> u64
+    ensures { λ r. ⌜ AtHost (union (keyOf slot0 generation0) (keyOf slot1 generation1)) values (now (head .entry)) (now (elems .entry)) (now (shared .entry)) [] (now (out .entry)) (left r (now (head .exit)) (now (elems .exit)) (now (shared .exit)) [] (now (out .exit))) ⌝ }
+{
+    let step = door::union(
+        unpack(*head),
+        elems,
+        shared,
+        Key {
+            slot: slot0,
+            generation: generation0,
+        },
+        Key {
+            slot: slot1,
+            generation: generation1,
+        },
+    );
+    let next = step.head;
+    *head = pack(next);
+    let answer = step.answer;
+    answers::joined(answer, out)
+}
+
+// Rules 7: removes a frame.
+#[no_mangle]
+pub extern "C" fn doorsedge_remove_element(
+    head: &mut [u64; 9],
+    elems: &mut [u64],
+    shared: &mut [u64],
+    slot: u64,
+    generation: u64,
+    out: &mut [u64; 4],
+) -> u64
+    ensures { λ r. ⌜ AtHost (remove (keyOf slot generation)) removalNumbers (now (head .entry)) (now (elems .entry)) (now (shared .entry)) [] (now (out .entry)) (left r (now (head .exit)) (now (elems .exit)) (now (shared .exit)) [] (now (out .exit))) ⌝ }
+{
+    let step = door::remove_element(
+        unpack(*head),
+        elems,
+        shared,
+        Key {
+            slot: slot,
+            generation: generation,
+        },
+    );
+    let next = step.head;
+    *head = pack(next);
+    let answer = step.answer;
+    answers::removed(answer, step.over, out)
+}
