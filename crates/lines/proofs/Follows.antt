@@ -53,9 +53,6 @@ pieces-append separator (b ∷ bs) ys = go (b == separator) (pieces-append separ
     w : (p : List ℕ) × (ps : List (List ℕ)) × (pieces separator bs ≡ p ∷ ps)
     w = pieces-some separator bs
 
-    qs : List (List ℕ)
-    qs = pieces separator ys
-
     go : (t : Bool) → pieces separator (bs ++ ys) ≡ glue (pieces separator bs) (pieces separator ys)
         → (if t then [] ∷ pieces separator (bs ++ ys) else prepend b (pieces separator (bs ++ ys)))
         ≡ glue (if t then [] ∷ pieces separator bs else prepend b (pieces separator bs)) (pieces separator ys)

@@ -116,11 +116,11 @@ pub fn put_removed(out: &mut [u8], at: usize, answer: Removed, over: bool) -> us
         Removed::Out { payload, rest } => {
             let number = put_text(out, at, b"out ");
             let word = put_decimal(out, number, payload);
-            let word = put_rest(out, word, rest);
+            let end = put_rest(out, word, rest);
             if over {
-                return put_text(out, word, b" over");
+                return put_text(out, end, b" over");
             }
-            word
+            end
         }
         Removed::Refused(refusal) => put_refusal(out, at, refusal),
     }

@@ -1,12 +1,9 @@
+-- `script::advance` meets its contract.
 use Rattle.script.proofs.Steps.{Same, advanced-line, advanced-part}
 use native.Mathlib.Omega.{arith}
 use borrow.Author.Needs.{needs}
 use Rattle.script.proofs.advance.Statement.{statement}
 use Rattle.script.proofs.advance.Tie as tie
-use Rattle.script.proofs.advance.Reads as reads
-use Rattle.script.proofs.advance.Lts as lts
-use Rattle.lines.proofs.gather.Reads as gather-reads
-use Rattle.script.proofs.answer.Reads as answer-reads
 
 gather-requires : tie.Need-gather-requires
 gather-requires c κs = search needs

@@ -1,13 +1,10 @@
+-- `script::answer` meets its contract.
 use lib.Seq.{length-take-le}
 use native.Mathlib.Omega.{arith}
 use mathlib.Core.Path.{sym}
 use borrow.Author.Needs.{needs}
 use Rattle.script.proofs.answer.Statement.{statement}
 use Rattle.script.proofs.answer.Tie as tie
-use Rattle.script.proofs.answer.Reads as reads
-use Rattle.script.proofs.answer.Lts as lts
-use Rattle.lines.proofs.obey_bytes.Reads as obey-bytes-reads
-use Rattle.script.proofs.make_room.Reads as make-room-reads
 
 make-room-requires : tie.Need-make-room-requires
 make-room-requires c κs = search needs

@@ -1,11 +1,9 @@
+-- `script::finish` meets its contract.
 use Rattle.lines.proofs.Follows.{follows-room, follows-end, follows-last}
 use native.Mathlib.Omega.{arith}
 use borrow.Author.Needs.{needs}
 use Rattle.script.proofs.finish.Statement.{statement}
 use Rattle.script.proofs.finish.Tie as tie
-use Rattle.script.proofs.finish.Reads as reads
-use Rattle.script.proofs.finish.Lts as lts
-use Rattle.script.proofs.answer.Reads as answer-reads
 
 returns : tie.Need-returns
 returns c = (λ input f. follows-end f (c .if1 .taken) (omega (arith, c .before .before .before .before .before .before .before .pre .line)), c .before .before .before .before .before .before .before .pre .fill)

@@ -1,12 +1,10 @@
+-- `script::main` meets its contract.
 use mathlib.Core.Path.{refl}
 use lib.Dec.{lit<, lit≤}
 use Rattle.script.proofs.Steps.{started}
 use borrow.Author.Needs.{needs}
 use Rattle.script.proofs.main.Statement.{statement}
 use Rattle.script.proofs.main.Tie as tie
-use Rattle.script.proofs.main.Reads as reads
-use Rattle.script.proofs.main.Lts as lts
-use Rattle.script.proofs.run.Reads as run-reads
 
 slice-aggregate-run : tie.Need-slice-aggregate-run
 slice-aggregate-run c = search needs

@@ -1,3 +1,4 @@
+-- `script::make_room` meets its contract.
 use lib.Seq.{length-take-le}
 use mathlib.Core.Path.{refl, sym}
 use mathlib.Core.Logic.{inl, inr}
@@ -5,9 +6,6 @@ use native.Mathlib.Omega.{arith}
 use borrow.Author.Needs.{needs}
 use Rattle.script.proofs.make_room.Statement.{statement}
 use Rattle.script.proofs.make_room.Tie as tie
-use Rattle.script.proofs.make_room.Reads as reads
-use Rattle.script.proofs.make_room.Lts as lts
-use Rattle.io.proofs.write_all.Reads as write-all-reads
 
 sub-if1 : tie.Need-sub-if1
 sub-if1 c = search needs

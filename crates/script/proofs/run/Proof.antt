@@ -1,3 +1,4 @@
+-- `script::run` meets its contract. The invariant: of some input, all was read, and what was printed is what Script says of it.
 use mathlib.Core.Path.{_≡_, refl, sym, ap, _∙_}
 use mathlib.Core.Logic.{⊎-elim}
 use native.Mathlib.Omega.{arith}
@@ -6,14 +7,6 @@ use lib.Seq.{length-take-le}
 use Rattle.script.proofs.Steps.{Lengths, Reading, reading-start, reading-next}
 use Rattle.script.proofs.run.Statement.{statement}
 use Rattle.script.proofs.run.Tie as tie
-use Rattle.script.proofs.run.Reads as reads
-use Rattle.script.proofs.run.Lts as lts
-use Rattle.io.proofs.count.Reads as count-reads
-use Rattle.io.proofs.write_all.Reads as write-all-reads
-use Rattle.libc.proofs.read.Reads as read-reads
-use Rattle.script.proofs.feed.Reads as feed-reads
-use Rattle.script.proofs.finish.Reads as finish-reads
-use Rattle.script.proofs.fresh_head.Reads as fresh-head-reads
 
 abbrev Inv-loop : tie.InvT-loop
 Inv-loop elems₀ shared₀ keys₀ out₀ line₀ block₀ p₀ turns₀ elems shared keys out line block p turns =

@@ -1,3 +1,4 @@
+-- `lines::answers::put_inserted` meets its contract.
 use mathlib.Core.List.{[]}
 use Rattle.rules.specs.Script.{keyText}
 use Rattle.lines.proofs.Texts.{text-refused}
@@ -5,11 +6,6 @@ use Rattle.lines.proofs.Puts.{put-then, put-same}
 use borrow.Author.Needs.{needs}
 use Rattle.lines.proofs.answers.put_inserted.Statement.{statement}
 use Rattle.lines.proofs.answers.put_inserted.Tie as tie
-use Rattle.lines.proofs.answers.put_inserted.Reads as reads
-use Rattle.lines.proofs.answers.put_inserted.Lts as lts
-use Rattle.lines.proofs.answers.put_key.Reads as put-key-reads
-use Rattle.lines.proofs.answers.put_refusal.Reads as put-refusal-reads
-use Rattle.lines.proofs.text.put_text.Reads as put-text-reads
 
 enum-known-answer : tie.Need-enum-known-answer
 enum-known-answer c = search needs

@@ -1,3 +1,4 @@
+-- `lines::answers::put_joined` meets its contract.
 use Rattle.rules.specs.Script.{unionText}
 use Rattle.lines.proofs.Texts.{text-refused}
 use mathlib.Core.List.{[]}
@@ -5,12 +6,6 @@ use Rattle.lines.proofs.Puts.{put-then, put-key-then, put-same}
 use borrow.Author.Needs.{needs}
 use Rattle.lines.proofs.answers.put_joined.Statement.{statement}
 use Rattle.lines.proofs.answers.put_joined.Tie as tie
-use Rattle.lines.proofs.answers.put_joined.Reads as reads
-use Rattle.lines.proofs.answers.put_joined.Lts as lts
-use Rattle.lines.proofs.answers.put_key.Reads as put-key-reads
-use Rattle.lines.proofs.answers.put_refusal.Reads as put-refusal-reads
-use Rattle.lines.proofs.text.put_decimal.Reads as put-decimal-reads
-use Rattle.lines.proofs.text.put_text.Reads as put-text-reads
 
 enum-known-answer : tie.Need-enum-known-answer
 enum-known-answer c = search needs

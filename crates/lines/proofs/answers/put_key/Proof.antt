@@ -1,11 +1,8 @@
+-- `lines::answers::put_key` meets its contract.
 use Rattle.lines.proofs.Puts.{put-then}
 use borrow.Author.Needs.{needs}
 use Rattle.lines.proofs.answers.put_key.Statement.{statement}
 use Rattle.lines.proofs.answers.put_key.Tie as tie
-use Rattle.lines.proofs.answers.put_key.Reads as reads
-use Rattle.lines.proofs.answers.put_key.Lts as lts
-use Rattle.lines.proofs.text.put_decimal.Reads as put-decimal-reads
-use Rattle.lines.proofs.text.put_text.Reads as put-text-reads
 
 put-decimal-requires : tie.Need-put-decimal-requires
 put-decimal-requires c κs = search needs

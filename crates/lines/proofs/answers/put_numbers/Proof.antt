@@ -1,3 +1,4 @@
+-- `lines::answers::put_numbers` meets its contract. The invariant: the first `i` numbers are written, each after a space.
 use Rattle.lines.proofs.Puts.{Written, put-none, written-more}
 use Rattle.rules.specs.Script.{space}
 use borrow.Author.Needs.{needs}
@@ -7,10 +8,6 @@ use mathlib.Core.Path.{_≡_, refl}
 use Prim.Native.Nat.{_≤_, _-_}
 use Rattle.lines.proofs.answers.put_numbers.Statement.{statement}
 use Rattle.lines.proofs.answers.put_numbers.Tie as tie
-use Rattle.lines.proofs.answers.put_numbers.Reads as reads
-use Rattle.lines.proofs.answers.put_numbers.Lts as lts
-use Rattle.lines.proofs.text.put_decimal.Reads as put-decimal-reads
-use Rattle.lines.proofs.text.put_text.Reads as put-text-reads
 
 abbrev Inv-loop : tie.InvT-loop
 Inv-loop out₀ at numbers count next₀ i₀ t8 out next i = (i ≤ count) × (t8 ≡ space ∷ []) × Written out₀ at numbers out next i

@@ -1,12 +1,8 @@
+-- `lines::answers::put_refusal` meets its contract.
 use Rattle.lines.proofs.Puts.{put-then}
 use borrow.Author.Needs.{needs}
 use Rattle.lines.proofs.answers.put_refusal.Statement.{statement}
 use Rattle.lines.proofs.answers.put_refusal.Tie as tie
-use Rattle.lines.proofs.answers.put_refusal.Reads as reads
-use Rattle.lines.proofs.answers.put_refusal.Lts as lts
-use Rattle.lines.proofs.answers.number_of.Reads as number-of-reads
-use Rattle.lines.proofs.text.put_decimal.Reads as put-decimal-reads
-use Rattle.lines.proofs.text.put_text.Reads as put-text-reads
 
 slice-aggregate-put-text : tie.Need-slice-aggregate-put-text
 slice-aggregate-put-text c = search needs

@@ -1,3 +1,4 @@
+-- `lines::answers::put_removed` meets its contract.
 use Rattle.rules.specs.Script.{removeText}
 use Rattle.lines.proofs.Texts.{text-refused}
 use mathlib.Core.List.{[]}
@@ -5,12 +6,6 @@ use Rattle.lines.proofs.Puts.{put-then, put-same, put-none}
 use borrow.Author.Needs.{needs}
 use Rattle.lines.proofs.answers.put_removed.Statement.{statement}
 use Rattle.lines.proofs.answers.put_removed.Tie as tie
-use Rattle.lines.proofs.answers.put_removed.Reads as reads
-use Rattle.lines.proofs.answers.put_removed.Lts as lts
-use Rattle.lines.proofs.answers.put_refusal.Reads as put-refusal-reads
-use Rattle.lines.proofs.answers.put_rest.Reads as put-rest-reads
-use Rattle.lines.proofs.text.put_decimal.Reads as put-decimal-reads
-use Rattle.lines.proofs.text.put_text.Reads as put-text-reads
 
 enum-known-answer : tie.Need-enum-known-answer
 enum-known-answer c = search needs

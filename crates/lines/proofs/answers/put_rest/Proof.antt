@@ -1,11 +1,8 @@
+-- `lines::answers::put_rest` meets its contract.
 use Rattle.lines.proofs.Puts.{put-none, put-then}
 use borrow.Author.Needs.{needs}
 use Rattle.lines.proofs.answers.put_rest.Statement.{statement}
 use Rattle.lines.proofs.answers.put_rest.Tie as tie
-use Rattle.lines.proofs.answers.put_rest.Reads as reads
-use Rattle.lines.proofs.answers.put_rest.Lts as lts
-use Rattle.lines.proofs.text.put_decimal.Reads as put-decimal-reads
-use Rattle.lines.proofs.text.put_text.Reads as put-text-reads
 
 enum-told : tie.Need-enum-told
 enum-told c = search needs

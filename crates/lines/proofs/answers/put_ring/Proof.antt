@@ -1,3 +1,4 @@
+-- `lines::answers::put_ring` meets its contract.
 use Rattle.lines.proofs.Texts.{text-refused}
 use Rattle.lines.proofs.Puts.{put-then, put-same}
 use Rattle.rules.specs.Script.{ringText}
@@ -7,12 +8,6 @@ use Prim.Native.Nat.{_≤_, _*_}
 use borrow.Author.Needs.{needs}
 use Rattle.lines.proofs.answers.put_ring.Statement.{statement}
 use Rattle.lines.proofs.answers.put_ring.Tie as tie
-use Rattle.lines.proofs.answers.put_ring.Reads as reads
-use Rattle.lines.proofs.answers.put_ring.Lts as lts
-use Rattle.lines.proofs.answers.put_numbers.Reads as put-numbers-reads
-use Rattle.lines.proofs.answers.put_refusal.Reads as put-refusal-reads
-use Rattle.lines.proofs.text.put_decimal.Reads as put-decimal-reads
-use Rattle.lines.proofs.text.put_text.Reads as put-text-reads
 
 enum-known-answer : tie.Need-enum-known-answer
 enum-known-answer c = search needs

@@ -1,14 +1,10 @@
+-- `lines::obey::obey_bytes` meets its contract.
 use Rattle.lines.proofs.Puts.{put-then}
 use Rattle.rules.specs.Tables.{stateOf}
 use native.Mathlib.Omega.{arith}
 use borrow.Author.Needs.{needs}
 use Rattle.lines.proofs.obey.obey_bytes.Statement.{statement}
 use Rattle.lines.proofs.obey.obey_bytes.Tie as tie
-use Rattle.lines.proofs.obey.obey_bytes.Reads as reads
-use Rattle.lines.proofs.obey.obey_bytes.Lts as lts
-use Rattle.lines.proofs.obey.obey_line.Reads as obey-line-reads
-use Rattle.lines.proofs.read.read_line.Reads as read-line-reads
-use Rattle.lines.proofs.text.put_text.Reads as put-text-reads
 
 read-line-requires : tie.Need-read-line-requires
 read-line-requires c κs = search needs

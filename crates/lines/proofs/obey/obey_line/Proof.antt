@@ -1,3 +1,4 @@
+-- `lines::obey::obey_line` meets its contract. Each way is a law on a call told, or on a ring listed.
 use Rattle.lines.proofs.Obeying.{told, listed, listed-places}
 use Rattle.rules.specs.Script.{keyText, unionText, removeText}
 use Rattle.rules.specs.Calls.{newRun, insert, union, remove}
@@ -7,18 +8,6 @@ use mathlib.Core.Path.{refl}
 use borrow.Author.Needs.{needs}
 use Rattle.lines.proofs.obey.obey_line.Statement.{statement}
 use Rattle.lines.proofs.obey.obey_line.Tie as tie
-use Rattle.lines.proofs.obey.obey_line.Reads as reads
-use Rattle.lines.proofs.obey.obey_line.Lts as lts
-use Rattle.drains.proofs.list.Reads as list-reads
-use Rattle.lines.proofs.answers.put_refusal.Reads as put-refusal-reads
-use Rattle.lines.proofs.answers.put_ring.Reads as put-ring-reads
-use Rattle.lines.proofs.answers.tell_inserted.Reads as tell-inserted-reads
-use Rattle.lines.proofs.answers.tell_joined.Reads as tell-joined-reads
-use Rattle.lines.proofs.answers.tell_removed.Reads as tell-removed-reads
-use Rattle.runs.proofs.insert.Reads as insert-reads
-use Rattle.runs.proofs.insert_surject.Reads as insert-surject-reads
-use Rattle.runs.proofs.remove_element.Reads as remove-element-reads
-use Rattle.runs.proofs.union.Reads as union-reads
 
 enum-known-line : tie.Need-enum-known-line
 enum-known-line c = search needs

@@ -1,12 +1,9 @@
+-- `lines::read::read_insert` meets its contract.
 use mathlib.Core.List.{[], _∷_}
 use Rattle.rules.specs.Script.{u64}
 use borrow.Author.Needs.{needs}
 use Rattle.lines.proofs.read.read_insert.Statement.{statement}
 use Rattle.lines.proofs.read.read_insert.Tie as tie
-use Rattle.lines.proofs.read.read_insert.Reads as reads
-use Rattle.lines.proofs.read.read_insert.Lts as lts
-use Rattle.lines.proofs.read.take_key.Reads as take-key-reads
-use Rattle.lines.proofs.words.last_number.Reads as last-number-reads
 
 take-key-requires : tie.Need-take-key-requires
 take-key-requires c κs = search needs

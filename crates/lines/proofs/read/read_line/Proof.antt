@@ -1,17 +1,10 @@
+-- `lines::read::read_line` meets its contract.
 use mathlib.Core.Path.{_∙_}
 use Rattle.rules.specs.Script.{replyTo}
 use Rattle.lines.proofs.Letters.{line-long, line-other, line-letter, letter-other}
 use borrow.Author.Needs.{needs}
 use Rattle.lines.proofs.read.read_line.Statement.{statement}
 use Rattle.lines.proofs.read.read_line.Tie as tie
-use Rattle.lines.proofs.read.read_line.Reads as reads
-use Rattle.lines.proofs.read.read_line.Lts as lts
-use Rattle.lines.proofs.read.read_insert.Reads as read-insert-reads
-use Rattle.lines.proofs.read.read_list.Reads as read-list-reads
-use Rattle.lines.proofs.read.read_new_run.Reads as read-new-run-reads
-use Rattle.lines.proofs.read.read_remove.Reads as read-remove-reads
-use Rattle.lines.proofs.read.read_union.Reads as read-union-reads
-use Rattle.lines.proofs.words.word_end.Reads as word-end-reads
 
 returns : tie.Need-returns
 returns c = λ st. line-long st _ (c .if1 .taken)

@@ -1,12 +1,9 @@
+-- `lines::read::read_new_run` meets its contract.
 use mathlib.Core.List.{[], _∷_}
 use Rattle.rules.specs.Script.{u64}
 use borrow.Author.Needs.{needs}
 use Rattle.lines.proofs.read.read_new_run.Statement.{statement}
 use Rattle.lines.proofs.read.read_new_run.Tie as tie
-use Rattle.lines.proofs.read.read_new_run.Reads as reads
-use Rattle.lines.proofs.read.read_new_run.Lts as lts
-use Rattle.lines.proofs.words.last_number.Reads as last-number-reads
-use Rattle.lines.proofs.words.take_number.Reads as take-number-reads
 
 take-number-requires : tie.Need-take-number-requires
 take-number-requires c κs = search needs

@@ -1,9 +1,7 @@
+-- `lines::read::read_remove` meets its contract.
 use borrow.Author.Needs.{needs}
 use Rattle.lines.proofs.read.read_remove.Statement.{statement}
 use Rattle.lines.proofs.read.read_remove.Tie as tie
-use Rattle.lines.proofs.read.read_remove.Reads as reads
-use Rattle.lines.proofs.read.read_remove.Lts as lts
-use Rattle.lines.proofs.read.last_key.Reads as last-key-reads
 
 last-key-requires : tie.Need-last-key-requires
 last-key-requires c κs = search needs

@@ -1,12 +1,9 @@
+-- `lines::read::read_union` meets its contract.
 use mathlib.Core.List.{[], _∷_}
 use Rattle.rules.specs.Script.{u32}
 use borrow.Author.Needs.{needs}
 use Rattle.lines.proofs.read.read_union.Statement.{statement}
 use Rattle.lines.proofs.read.read_union.Tie as tie
-use Rattle.lines.proofs.read.read_union.Reads as reads
-use Rattle.lines.proofs.read.read_union.Lts as lts
-use Rattle.lines.proofs.read.last_key.Reads as last-key-reads
-use Rattle.lines.proofs.read.take_key.Reads as take-key-reads
 
 take-key-requires : tie.Need-take-key-requires
 take-key-requires c κs = search needs

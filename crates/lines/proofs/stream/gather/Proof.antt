@@ -1,3 +1,4 @@
+-- `lines::stream::gather` meets its contract. The invariant: no newline was passed, and the bytes passed are kept while there is room.
 use Prim.Native.Nat.{_-_}
 use borrow.Author.Needs.{needs}
 use native.Mathlib.Omega.{arith}
@@ -5,9 +6,6 @@ use lib.ListN.{length}
 use Rattle.lines.proofs.Gathering.{Gathering, gathering-start, gathering-next, gathered-line, gathered-part}
 use Rattle.lines.proofs.stream.gather.Statement.{statement}
 use Rattle.lines.proofs.stream.gather.Tie as tie
-use Rattle.lines.proofs.stream.gather.Reads as reads
-use Rattle.lines.proofs.stream.gather.Lts as lts
-use Rattle.lines.proofs.stream.keep.Reads as keep-reads
 
 abbrev Inv-loop : tie.InvT-loop
 Inv-loop block at line₀ held i₀ kept₀ line i kept = Gathering block at line₀ held line kept i

@@ -1,9 +1,8 @@
+-- `lines::stream::keep` meets its contract.
 use Rattle.lines.proofs.Gathering.{keep-room, keep-full}
 use borrow.Author.Needs.{needs}
 use Rattle.lines.proofs.stream.keep.Statement.{statement}
 use Rattle.lines.proofs.stream.keep.Tie as tie
-use Rattle.lines.proofs.stream.keep.Reads as reads
-use Rattle.lines.proofs.stream.keep.Lts as lts
 
 slice-write-line : tie.Need-slice-write-line
 slice-write-line c = search needs

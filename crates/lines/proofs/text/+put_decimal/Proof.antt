@@ -1,3 +1,4 @@
+-- `lines::text::put_decimal` meets its contract. The number falls at each call.
 use borrow.Author.Needs.{needs}
 use native.Mathlib.Omega.{arith}
 use Rattle.lines.proofs.Decimals.{decimal-one, decimal-last, decimal-short}

@@ -1,3 +1,4 @@
+-- `lines::text::put_text` meets its contract. The invariant: the first `i` bytes of the text are copied.
 use Prim.Native.Nat.{_≤_, _-_, _+_}
 use mathlib.Core.Path.{_≡_, refl}
 use borrow.Author.Needs.{needs}
@@ -7,8 +8,6 @@ use lib.Seq.{paste, paste-zero}
 use Rattle.lines.proofs.Puts.{copy-more, copy-done}
 use Rattle.lines.proofs.text.put_text.Statement.{statement}
 use Rattle.lines.proofs.text.put_text.Tie as tie
-use Rattle.lines.proofs.text.put_text.Reads as reads
-use Rattle.lines.proofs.text.put_text.Lts as lts
 
 abbrev Inv-loop : tie.InvT-loop
 Inv-loop out₀ at text i₀ out i = (i ≤ length text) × (length out ≡ length out₀) × (out ≡ paste out₀ at text i)

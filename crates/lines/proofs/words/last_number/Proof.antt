@@ -1,11 +1,9 @@
+-- `lines::words::last_number` meets its contract.
 use mathlib.Core.List.{[]}
 use Rattle.lines.proofs.Pieces.{numbers-over, numbers-end}
 use borrow.Author.Needs.{needs}
 use Rattle.lines.proofs.words.last_number.Statement.{statement}
 use Rattle.lines.proofs.words.last_number.Tie as tie
-use Rattle.lines.proofs.words.last_number.Reads as reads
-use Rattle.lines.proofs.words.last_number.Lts as lts
-use Rattle.lines.proofs.words.take_number.Reads as take-number-reads
 
 take-number-requires : tie.Need-take-number-requires
 take-number-requires c κs = search needs

@@ -1,3 +1,4 @@
+-- `lines::words::number` meets its contract. The invariant: the value so far is that of the digits passed, and they are its decimal.
 use Rattle.lines.proofs.Reading.{Reading, reading-empty, reading-start, reading-no-digit, reading-zero, reading-large, reading-next, reading-done}
 use native.Mathlib.Omega.{arith}
 use borrow.Author.Needs.{needs}
@@ -6,9 +7,6 @@ use mathlib.Core.Path.{_≡_, refl}
 use Prim.Native.Nat.{_-_, _≤_, _<_, _^_}
 use Rattle.lines.proofs.words.number.Statement.{statement}
 use Rattle.lines.proofs.words.number.Tie as tie
-use Rattle.lines.proofs.words.number.Reads as reads
-use Rattle.lines.proofs.words.number.Lts as lts
-use Rattle.lines.proofs.words.digit.Reads as digit-reads
 
 abbrev Inv-loop : tie.InvT-loop
 Inv-loop line from end most value₀ i₀ value i = Reading line from end most value i

@@ -1,13 +1,10 @@
+-- `lines::words::take_number` meets its contract.
 use Rattle.lines.specs.Words.{option}
 use mathlib.Core.Path.{_≡_, refl, ap, _∙_}
 use Rattle.lines.proofs.Pieces.{numbers-none, numbers-word}
 use borrow.Author.Needs.{needs}
 use Rattle.lines.proofs.words.take_number.Statement.{statement}
 use Rattle.lines.proofs.words.take_number.Tie as tie
-use Rattle.lines.proofs.words.take_number.Reads as reads
-use Rattle.lines.proofs.words.take_number.Lts as lts
-use Rattle.lines.proofs.words.number.Reads as number-reads
-use Rattle.lines.proofs.words.word_end.Reads as word-end-reads
 
 returns : tie.Need-returns
 returns c = λ mosts. numbers-none _ _ _ mosts (c .if1 .taken)

@@ -1,3 +1,4 @@
+-- `lines::words::word_end` meets its contract. The invariant: the bytes passed, put in front of the pieces still to be read, are the words.
 use Prim.Native.Nat.{_-_}
 use borrow.Author.Needs.{needs}
 use lib.ListN.{length}
@@ -5,8 +6,6 @@ use Rattle.rules.specs.Script.{space}
 use Rattle.lines.proofs.Pieces.{Within, within-start, within-next, word-at-space, word-at-last}
 use Rattle.lines.proofs.words.word_end.Statement.{statement}
 use Rattle.lines.proofs.words.word_end.Tie as tie
-use Rattle.lines.proofs.words.word_end.Reads as reads
-use Rattle.lines.proofs.words.word_end.Lts as lts
 
 abbrev Inv-loop : tie.InvT-loop
 Inv-loop line from end₀ end = Within space line from end
