@@ -39,10 +39,7 @@ fn gate(head: Head, elems: &[u64], shared: &[u64]) -> Done
 pub fn check(head: Head, elems: &[u64], shared: &[u64]) -> Done
     ensures { λ r. ⌜ AtDoor (stateOf head (now (elems .entry)) (now (shared .entry))) [] check (leaves head (now (elems .entry)) (now (shared .entry)) [] (saidDone r false)) ⌝ }
 {
-    match gate(head, elems, shared) {
-        Done::Refused(n) => Done::Refused(n),
-        Done::Done => Done::Done,
-    }
+    gate(head, elems, shared)
 }
 
 // Rules 2, fresh: it has no door but its own, and gives only 1.
@@ -204,6 +201,59 @@ pub fn list(head: Head, elems: &[u64], shared: &[u64], key: Key, out: &mut [u64]
     match gate(head, elems, shared) {
         Done::Refused(n) => Number::Refused(n),
         Done::Done => drains::list(head, elems, shared, key, out),
+    }
+}
+
+// Rules 13: four-key exchange.
+pub fn exchange_disjoint_shared(
+    head: Head,
+    elems: &[u64],
+    shared: &mut [u64],
+    keys: [Key; 4],
+    values: [u64; 4],
+) -> Exchanged
+    ensures { λ r. ⌜ AtDoor (stateOf head (now (elems .entry)) (now (shared .entry))) [] (exchange keys values) (leaves head (now (elems .entry)) (now (shared .exit)) [] (saidExchanged r)) ⌝ }
+{
+    match gate(head, elems, shared) {
+        Done::Refused(n) => Exchanged {
+            answer: Done::Refused(n),
+            old: [0; 4],
+        },
+        Done::Done => runs::exchange_disjoint_shared(head, elems, shared, keys, values),
+    }
+}
+
+// Rules 8: remove shared.
+pub fn remove_shared(head: Head, elems: &mut [u64], shared: &mut [u64], key: Key) -> HeadNumber
+    ensures { λ r. ⌜ AtDoor (stateOf head (now (elems .entry)) (now (shared .entry))) [] (removeShared key) (afterNumber r (now (elems .exit)) (now (shared .exit)) []) ⌝ }
+{
+    match gate(head, elems, shared) {
+        Done::Refused(n) => HeadNumber {
+            head,
+            answer: Number::Refused(n),
+            over: false,
+        },
+        Done::Done => drains::remove_shared(head, elems, shared, key),
+    }
+}
+
+// Rules 10: drain a run.
+pub fn drain(
+    head: Head,
+    elems: &mut [u64],
+    shared: &mut [u64],
+    key: Key,
+    out: &mut [u64],
+) -> HeadNumber
+    ensures { λ r. ⌜ AtDoor (stateOf head (now (elems .entry)) (now (shared .entry))) (now (out .entry)) (drain key) (afterNumber r (now (elems .exit)) (now (shared .exit)) (now (out .exit))) ⌝ }
+{
+    match gate(head, elems, shared) {
+        Done::Refused(n) => HeadNumber {
+            head,
+            answer: Number::Refused(n),
+            over: false,
+        },
+        Done::Done => drains::drain(head, elems, shared, key, out),
     }
 }
 

@@ -1,7 +1,6 @@
-use Rattle.door.proofs.Gates.{opened, shut}
-use Rattle.rules.proofs.laws.Doors.{passed}
+-- The check answers as the gate does.
 use Rattle.rules.specs.Tables.{stateOf}
-use mathlib.Core.Path.{refl}
+use Rattle.door.proofs.Gates.{told}
 use borrow.Author.Needs.{needs}
 use Rattle.door.proofs.check.Statement.{statement}
 use Rattle.door.proofs.check.Tie as tie
@@ -9,17 +8,8 @@ use Rattle.door.proofs.check.Tie as tie
 gate-requires : tie.Need-gate-requires
 gate-requires c κs = search needs
 
-enum-known-n : tie.Need-enum-known-n
-enum-known-n c = search needs
-
-enum-told : tie.Need-enum-told
-enum-told c = search needs
-
 returns : tie.Need-returns
-returns c = shut (stateOf (c .before .before .before .before .before .before .args .head) (c .before .before .before .before .before .before .args .elems .now) (c .before .before .before .before .before .before .args .shared .now)) (c .before .before .before .gate .result) (c .before .before .before .gate .ensures) _ (c .before .n .given .1) _ _
-
-returns-2 : tie.Need-returns-2
-returns-2 c = passed (stateOf (c .before .before .before .before .before .args .head) (c .before .before .before .before .before .args .elems .now) (c .before .before .before .before .before .args .shared .now)) _ _ _ (opened (stateOf (c .before .before .before .before .before .args .head) (c .before .before .before .before .before .args .elems .now) (c .before .before .before .before .before .args .shared .now)) (c .before .before .gate .result) (c .before .before .gate .ensures) (c .enum-told .given .1)) refl
+returns c = told (stateOf (c .before .before .before .args .head) (c .before .before .before .args .elems .now) (c .before .before .before .args .shared .now)) (c .gate .result) (c .gate .ensures)
 
 pub check-spec : {M : Type 1} → statement M
-check-spec = tie.close (tie.spec gate-requires enum-known-n enum-told returns returns-2)
+check-spec = tie.close (tie.spec gate-requires returns)
