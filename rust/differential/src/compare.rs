@@ -1,7 +1,7 @@
 //! What is compared after a call: count, membership, payloads, shared values, ring order, len.
 
 use crate::calls::{NEVER, Name};
-use crate::pair::{Oracle, Pair, same};
+use crate::pair::{Oracle, Pair, has, same};
 use doorsedge::{Key, Refusal};
 use triple_arena::traits::*;
 
@@ -52,7 +52,7 @@ impl Pair {
     fn is_dead(&mut self, key: Key) -> Result<(), String> {
         let live = self.live().next().map_or(key, |name| self.keys(name).0);
         let (p, dead) = (&mut self.port, Some(Refusal::Dead));
-        for said in [
+        let mut all = vec![
             p.len_surject(key).err(),
             p.get(key).err(),
             p.get_shared(key).err(),
@@ -61,14 +61,21 @@ impl Pair {
             p.list_into(key, &mut []).err(),
             p.set(key, 1).err(),
             p.set_shared(key, 1).err(),
-            p.exchange_shared4([live, live, live, key], [1; 4]).err(),
             p.insert(key, 1).err(),
             p.union(key, live).err(),
             p.union(live, key).err(),
             p.remove_element(key).err(),
-            p.remove_shared(key).err(),
-            p.drain_into(key, &mut []).err(),
-        ] {
+        ];
+        if has("exchange_shared4") {
+            all.push(p.exchange_shared4([live, live, live, key], [1; 4]).err());
+        }
+        if has("remove_shared") {
+            all.push(p.remove_shared(key).err());
+        }
+        if has("drain") {
+            all.push(p.drain_into(key, &mut []).err());
+        }
+        for said in all {
             same("a dead key", said, dead)?;
         }
         Ok(())
