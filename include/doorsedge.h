@@ -233,6 +233,30 @@ uint64_t doorsedge_compress_canonical(uint64_t head[DOORSEDGE_HEAD], uint64_t *e
                                       uint64_t *shared, size_t shared_len, uint64_t reset, uint64_t *scratch,
                                       size_t scratch_len, uint64_t out[1]);
 
+/* ---- The head lent in place: a writer lends its own struct, which lies as the DOORSEDGE_HEAD numbers do, and calls
+   these two as `insert` and `remove_element` are called. */
+
+struct doorsedge_pool {
+    uint64_t capacity, extent, root, live;
+};
+
+struct doorsedge_lent_head {
+    struct doorsedge_pool elems, shared;
+    uint64_t generation;
+};
+
+/* As `doorsedge_insert`.
+   Refusals: 1, 2, 3, 5. */
+uint64_t doorsedge_insert_in_place(struct doorsedge_lent_head *head, uint64_t *elems, size_t elems_len,
+                                   uint64_t *shared, size_t shared_len, uint64_t slot, uint64_t generation,
+                                   uint64_t payload, uint64_t out[2]);
+
+/* As `doorsedge_remove_element`.
+   Refusals: 1, 2, 3. */
+uint64_t doorsedge_remove_in_place(struct doorsedge_lent_head *head, uint64_t *elems, size_t elems_len,
+                                   uint64_t *shared, size_t shared_len, uint64_t slot, uint64_t generation,
+                                   uint64_t out[4]);
+
 #ifdef __cplusplus
 }
 #endif

@@ -51,10 +51,12 @@ mod answers;
 mod arena;
 pub mod sys;
 mod tables;
+mod writer;
 
 pub use answers::{Joined, Key, Record, Refusal, Removed, RemovedShared};
 pub use arena::Arena;
 pub use tables::{Borrowed, Owned, Tables};
+pub use writer::Writer;
 
 /// Numbers to an element slot.
 pub const FRAME: usize = 5;

@@ -10,6 +10,25 @@ use mock as _;
 
 pub type Head = [u64; 9];
 
+/// What the head holds of one table.
+#[derive(Clone, Copy, PartialEq, Eq, Debug, Default)]
+#[repr(C)]
+pub struct Pool {
+    pub capacity: u64,
+    pub extent: u64,
+    pub root: u64,
+    pub live: u64,
+}
+
+/// A head that a writer lends in place. It lies as the nine numbers of a [Head] do.
+#[derive(Clone, Copy, PartialEq, Eq, Debug, Default)]
+#[repr(C)]
+pub struct LentHead {
+    pub elems: Pool,
+    pub shared: Pool,
+    pub generation: u64,
+}
+
 /// What stands in for an entry that the archive lacks gives this number; no entry of the archive does.
 pub const ABSENT: u64 = 99;
 
@@ -232,5 +251,28 @@ unsafe extern "C" {
         scratch: *mut u64,
         scratch_len: usize,
         out: *mut [u64; 1],
+    ) -> u64;
+
+    pub fn doorsedge_insert_in_place(
+        head: *mut LentHead,
+        elems: *mut u64,
+        elems_len: usize,
+        shared: *mut u64,
+        shared_len: usize,
+        slot: u64,
+        generation: u64,
+        payload: u64,
+        out: *mut [u64; 2],
+    ) -> u64;
+
+    pub fn doorsedge_remove_in_place(
+        head: *mut LentHead,
+        elems: *mut u64,
+        elems_len: usize,
+        shared: *mut u64,
+        shared_len: usize,
+        slot: u64,
+        generation: u64,
+        out: *mut [u64; 4],
     ) -> u64;
 }

@@ -1,0 +1,56 @@
+//! The writer's two calls, with the head lent in place.
+
+use crate::answers::{Key, Refusal, Removed};
+use crate::sys::{self, LentHead};
+
+/// A writer over a head and tables that are the caller's own. Nothing is tested when it is made: each call tests.
+///
+/// ```
+/// use doorsedge::sys::{LentHead, Pool};
+/// use doorsedge::{Key, Refusal, Writer};
+///
+/// # fn main() -> Result<(), Refusal> {
+/// // one frame, in slot 1, with payload 7, under the shared value 70
+/// let pool = |capacity| Pool { capacity, extent: 1, root: 0, live: 1 };
+/// let mut head = LentHead { elems: pool(2), shared: pool(1), generation: 1 };
+/// let (mut elems, mut shared) = ([1, 7, 1, 1, 1, 0, 0, 0, 0, 0], [1, 70, 0]);
+///
+/// let mut writer = Writer { head: &mut head, elems: &mut elems, shared: &mut shared };
+/// let key = writer.insert(Key::new(1, 1), 8)?;
+/// assert_eq!(writer.insert(key, 9), Err(Refusal::NoElement));
+/// assert_eq!(writer.remove(key)?.payload, 8);
+/// assert_eq!((head.elems.live, head.generation), (1, 2));
+/// # Ok(())
+/// # }
+/// ```
+#[derive(PartialEq, Eq, Debug)]
+pub struct Writer<'a> {
+    pub head: &'a mut LentHead,
+    pub elems: &'a mut [u64],
+    pub shared: &'a mut [u64],
+}
+
+/// Calls an entry: head and tables as pointers and lengths, then its own arguments.
+macro_rules! lend {
+    ($self:ident, $entry:ident $(, $arg:expr)*) => {{
+        let (elems, shared) = (&mut *$self.elems, &mut *$self.shared);
+        // Safety: pointers and lengths are those of slices; head, tables and `out` are borrowed mutably, each apart
+        Refusal::test(unsafe { sys::$entry($self.head, elems.as_mut_ptr(), elems.len(), shared.as_mut_ptr(), shared.len() $(, $arg)*) })
+    }};
+}
+
+impl Writer<'_> {
+    /// Puts a frame into the key's run, immediately after the key's frame.
+    pub fn insert(&mut self, key: Key, payload: u64) -> Result<Key, Refusal> {
+        let mut out = [0; 2];
+        lend!(self, doorsedge_insert_in_place, key.slot(), key.generation(), payload, &mut out)?;
+        Ok(Key::new(out[0], out[1]))
+    }
+
+    /// Removes a frame.
+    pub fn remove(&mut self, key: Key) -> Result<Removed, Refusal> {
+        let mut out = [0; 4];
+        lend!(self, doorsedge_remove_in_place, key.slot(), key.generation(), &mut out)?;
+        Ok(Removed { payload: out[0], last: (out[1] == 1).then_some(out[2]), overflow: out[3] == 1 })
+    }
+}
