@@ -21,7 +21,9 @@ fn same(host: &mut Host, call: Call) -> u64 {
             Call::Insert(k, payload) => {
                 doorsedge_insert_in_place(&mut head, e, en, s, sn, k.slot, k.generation, payload, o.cast())
             }
-            Call::RemoveElement(k) => doorsedge_remove_in_place(&mut head, e, en, s, sn, k.slot, k.generation, o.cast()),
+            Call::RemoveElement(k) => {
+                doorsedge_remove_in_place(&mut head, e, en, s, sn, k.slot, k.generation, o.cast())
+            }
             _ => unreachable!("the writer has two calls"),
         }
     };
