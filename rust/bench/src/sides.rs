@@ -119,9 +119,9 @@ fn step(rows: &mut Rows, call: &Call, lent: &mut [u64]) -> Option<u64> {
         Call::SetShared(k, value) => rows.set_shared(k, value).ok(),
         Call::ExchangeShared4(keys, values) => rows.exchange_shared4(keys, values).ok().map(|old| old[0]),
         Call::InsertSurject { payload, value } => rows.insert_surject(payload, value).ok().map(|key| key.slot),
-        Call::Insert(k, payload) => rows.insert(k, payload).ok().map(|key| key.slot),
+        Call::Insert(k, payload) | Call::InsertInPlace(k, payload) => rows.insert(k, payload).ok().map(|key| key.slot),
         Call::Union(j, k) => rows.union(j, k).ok().map(|joined| joined.was),
-        Call::RemoveElement(k) => rows.remove_element(k).ok().map(|out| out.payload),
+        Call::RemoveElement(k) | Call::RemoveInPlace(k) => rows.remove_element(k).ok().map(|out| out.payload),
         Call::RemoveShared(k) => rows.remove_shared(k).ok().map(|(value, _)| value),
         Call::List(k) => rows.list(k, lent).ok(),
         Call::Drain(k) => rows.drain(k, lent).ok(),
@@ -149,9 +149,11 @@ fn ask(a: &mut Oracle, call: &Call, lent: &mut [u64]) -> Option<u64> {
         Call::InsertSurject { payload, value } => {
             a.insert_surject_within_capacity(payload, value).ok()?.inx().get() as u64
         }
-        Call::Insert(k, payload) => a.insert_within_capacity(ptr(k), payload).ok()?.inx().get() as u64,
+        Call::Insert(k, payload) | Call::InsertInPlace(k, payload) => {
+            a.insert_within_capacity(ptr(k), payload).ok()?.inx().get() as u64
+        }
         Call::Union(j, k) => a.union(ptr(j), ptr(k))?.0,
-        Call::RemoveElement(k) => a.remove_element(ptr(k)).allow()?.0,
+        Call::RemoveElement(k) | Call::RemoveInPlace(k) => a.remove_element(ptr(k)).allow()?.0,
         Call::RemoveShared(k) => a.remove_shared(ptr(k)).allow()?,
         Call::List(k) => {
             let places = lent.chunks_exact_mut(2).zip(a.iter_surject(ptr(k))?);

@@ -5,7 +5,10 @@ use crate::{layout::*, rows::Rows};
 /// A call with its arguments.
 #[derive(Clone, Copy, PartialEq, Eq, Debug)]
 pub enum Call {
-    Fresh { elems: u64, shared: u64 },
+    Fresh {
+        elems: u64,
+        shared: u64,
+    },
     Check,
     LenSurject(Key),
     InSameSurject(Key, Key),
@@ -14,20 +17,28 @@ pub enum Call {
     Set(Key, u64),
     SetShared(Key, u64),
     ExchangeShared4([Key; 4], [u64; 4]),
-    InsertSurject { payload: u64, value: u64 },
+    InsertSurject {
+        payload: u64,
+        value: u64,
+    },
     Insert(Key, u64),
     Union(Key, Key),
     RemoveElement(Key),
+    /// Insert and removal with the head lent in place: the same calls by other entries.
+    InsertInPlace(Key, u64),
+    RemoveInPlace(Key),
     RemoveShared(Key),
     List(Key),
     Drain(Key),
     DrainAll,
     Clear,
-    CompressCanonical { reset: u64 },
+    CompressCanonical {
+        reset: u64,
+    },
 }
 
 /// How many kinds of calls there are.
-pub const KINDS: usize = 19;
+pub const KINDS: usize = 21;
 
 impl Call {
     /// The entry's name in C, without its prefix; and how many numbers its `out` has.
@@ -46,6 +57,8 @@ impl Call {
             Call::Insert(..) => ("insert", 2),
             Call::Union(..) => ("union", 4),
             Call::RemoveElement(_) => ("remove_element", 4),
+            Call::InsertInPlace(..) => ("insert_in_place", 2),
+            Call::RemoveInPlace(_) => ("remove_in_place", 4),
             Call::RemoveShared(_) => ("remove_shared", 2),
             Call::List(_) => ("list", 1),
             Call::Drain(_) => ("drain", 1),
@@ -129,12 +142,12 @@ pub fn said(rows: &mut Rows, call: &Call, lent: &mut [u64]) -> Result<[u64; 4], 
         Call::SetShared(k, value) => one(rows.set_shared(k, value)?),
         Call::ExchangeShared4(keys, values) => rows.exchange_shared4(keys, values)?,
         Call::InsertSurject { payload, value } => key(rows.insert_surject(payload, value)?),
-        Call::Insert(k, payload) => key(rows.insert(k, payload)?),
+        Call::Insert(k, payload) | Call::InsertInPlace(k, payload) => key(rows.insert(k, payload)?),
         Call::Union(j, k) => {
             let joined = rows.union(j, k)?;
             [joined.was, joined.kept.slot, joined.kept.generation, joined.moved]
         }
-        Call::RemoveElement(k) => {
+        Call::RemoveElement(k) | Call::RemoveInPlace(k) => {
             let out = rows.remove_element(k)?;
             [out.payload, out.value.is_some() as u64, out.value.unwrap_or(0), out.overflow as u64]
         }

@@ -43,6 +43,10 @@ pub fn run(
             Call::Insert(k, payload) => doorsedge_insert(h, e, en, s, sn, k.slot, k.generation, payload, o.cast()),
             Call::Union(j, k) => doorsedge_union(h, e, en, s, sn, j.slot, j.generation, k.slot, k.generation, o.cast()),
             Call::RemoveElement(k) => doorsedge_remove_element(h, e, en, s, sn, k.slot, k.generation, o.cast()),
+            Call::InsertInPlace(k, payload) => {
+                doorsedge_insert_in_place(h, e, en, s, sn, k.slot, k.generation, payload, o.cast())
+            }
+            Call::RemoveInPlace(k) => doorsedge_remove_in_place(h, e, en, s, sn, k.slot, k.generation, o.cast()),
             Call::RemoveShared(k) => doorsedge_remove_shared(h, e, en, s, sn, k.slot, k.generation, o.cast()),
             Call::List(k) => doorsedge_list(h, e, en, s, sn, k.slot, k.generation, l, ln, o.cast()),
             Call::Drain(k) => doorsedge_drain(h, e, en, s, sn, k.slot, k.generation, l, ln, o.cast()),
@@ -138,6 +142,8 @@ pub fn every_call(j: Key, k: Key) -> Vec<Call> {
         Call::Insert(k, 9),
         Call::Union(j, k),
         Call::RemoveElement(k),
+        Call::InsertInPlace(k, 9),
+        Call::RemoveInPlace(k),
         Call::RemoveShared(k),
         Call::List(k),
         Call::Drain(k),

@@ -179,7 +179,9 @@ fn any_call(host: &Host, r: &mut Random) -> Call {
         16 if r.one_in(3) => Call::DrainAll,
         17 if r.one_in(3) => Call::Clear,
         18 => Call::CompressCanonical { reset: r.of(&[0, 0, 1, a]) },
-        n if n < 27 => Call::InsertSurject { payload: a, value: b },
+        19 => Call::InsertInPlace(k, a),
+        20 => Call::RemoveInPlace(k),
+        n if n < 28 => Call::InsertSurject { payload: a, value: b },
         _ => Call::Insert(k, a),
     }
 }

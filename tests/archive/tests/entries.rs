@@ -117,6 +117,17 @@ fn remove_element() {
     assert_eq!(host.head[8], 1);
 }
 
+/// The writer's two calls, with the head lent in place.
+#[test]
+fn in_place() {
+    let mut host = two_runs();
+    assert_eq!(said(&mut host, Call::RemoveInPlace(key(2, 1))), (0, vec![11, 0, 0, 0]));
+    assert_eq!(said(&mut host, Call::RemoveInPlace(key(2, 1))), (3, vec![]));
+    assert_eq!(said(&mut host, Call::InsertInPlace(key(4, 1), 21)), (0, vec![2, 2]));
+    assert_eq!(said(&mut host, Call::InsertInPlace(key(4, 1), 22)), (5, vec![]));
+    assert_eq!((host.head[2], host.head[3], host.head[8]), (0, 4, 2));
+}
+
 #[test]
 fn remove_shared() {
     let mut host = two_runs();

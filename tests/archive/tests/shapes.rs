@@ -103,7 +103,7 @@ fn full_tables() {
             match call {
                 Call::ExchangeShared4(..) => assert_eq!(number, 4),
                 Call::InsertSurject { .. } => assert_eq!(number, if size == 1 { 6 } else { 5 }),
-                Call::Insert(..) => assert_eq!(number, 5),
+                Call::Insert(..) | Call::InsertInPlace(..) => assert_eq!(number, 5),
                 Call::Union(..) => assert_eq!(number, if size == most { 4 } else { 0 }),
                 _ => assert_eq!(number, 0, "{call:?}"),
             }
