@@ -44,9 +44,9 @@ pub fn run(
             Call::Union(j, k) => doorsedge_union(h, e, en, s, sn, j.slot, j.generation, k.slot, k.generation, o.cast()),
             Call::RemoveElement(k) => doorsedge_remove_element(h, e, en, s, sn, k.slot, k.generation, o.cast()),
             Call::InsertInPlace(k, payload) => {
-                doorsedge_insert_in_place(h, e, en, s, sn, k.slot, k.generation, payload, o.cast())
+                doorsedge_insert_in_place(h.cast(), e, en, s, sn, k.slot, k.generation, payload, o.cast())
             }
-            Call::RemoveInPlace(k) => doorsedge_remove_in_place(h, e, en, s, sn, k.slot, k.generation, o.cast()),
+            Call::RemoveInPlace(k) => doorsedge_remove_in_place(h.cast(), e, en, s, sn, k.slot, k.generation, o.cast()),
             Call::RemoveShared(k) => doorsedge_remove_shared(h, e, en, s, sn, k.slot, k.generation, o.cast()),
             Call::List(k) => doorsedge_list(h, e, en, s, sn, k.slot, k.generation, l, ln, o.cast()),
             Call::Drain(k) => doorsedge_drain(h, e, en, s, sn, k.slot, k.generation, l, ln, o.cast()),
