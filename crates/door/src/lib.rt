@@ -257,6 +257,20 @@ pub fn drain(
     }
 }
 
+// Rules 11: drain all.
+pub fn drain_all(head: Head, elems: &mut [u64], shared: &mut [u64], out: &mut [u64]) -> HeadNumber
+    ensures { λ r. ⌜ AtDoor (stateOf head (now (elems .entry)) (now (shared .entry))) (now (out .entry)) drainAll (afterNumber r (now (elems .exit)) (now (shared .exit)) (now (out .exit))) ⌝ }
+{
+    match gate(head, elems, shared) {
+        Done::Refused(n) => HeadNumber {
+            head,
+            answer: Number::Refused(n),
+            over: false,
+        },
+        Done::Done => drains::drain_all(head, elems, shared, out),
+    }
+}
+
 // Rules 14: compress canonical.
 pub fn compress_canonical(
     head: Head,
