@@ -115,3 +115,30 @@ pub extern "C" fn doorsedge_remove_element(
     let answer = step.answer;
     answers::removed(answer, step.over, out)
 }
+
+// Rules 8: removes the key's whole run.
+#[no_mangle]
+pub extern "C" fn doorsedge_remove_shared(
+    head: &mut [u64; 9],
+    elems: &mut [u64],
+    shared: &mut [u64],
+    slot: u64,
+    generation: u64,
+    out: &mut [u64; 2],
+) -> u64
+    ensures { λ r. ⌜ AtHost (removeShared (keyOf slot generation)) valuesOver (now (head .entry)) (now (elems .entry)) (now (shared .entry)) [] (now (out .entry)) (left r (now (head .exit)) (now (elems .exit)) (now (shared .exit)) [] (now (out .exit))) ⌝ }
+{
+    let step = door::remove_shared(
+        unpack(*head),
+        elems,
+        shared,
+        Key {
+            slot: slot,
+            generation: generation,
+        },
+    );
+    let next = step.head;
+    *head = pack(next);
+    let answer = step.answer;
+    answers::number_over(answer, step.over, out)
+}

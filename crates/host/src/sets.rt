@@ -82,3 +82,27 @@ pub extern "C" fn doorsedge_set_shared(
     );
     answers::number(answer, out)
 }
+
+// Rules 13: four keys and four new shared values go in together.
+#[no_mangle]
+pub extern "C" fn doorsedge_exchange_shared4(
+    head: &[u64; 9],
+    elems: &[u64],
+    shared: &mut [u64],
+    keys: &[u64; 8],
+    news: &[u64; 4],
+    out: &mut [u64; 4],
+) -> u64
+    ensures { λ r. ⌜ AtHost (exchange (keysOf (now (keys .entry))) (now (news .entry))) values (now (head .entry)) (now (elems .entry)) (now (shared .entry)) [] (now (out .entry)) (left r (now (head .entry)) (now (elems .entry)) (now (shared .exit)) [] (now (out .exit))) ⌝ }
+{
+    let exchanged = door::exchange_disjoint_shared(
+        unpack(*head),
+        elems,
+        shared,
+        four_keys(*keys),
+        *news,
+    );
+    let answer = exchanged.answer;
+    let old = exchanged.old;
+    answers::four(answer, old, out)
+}

@@ -70,3 +70,32 @@ pub extern "C" fn doorsedge_compress_canonical(
     let answer = step.answer;
     answers::over_only(answer, step.over, out)
 }
+
+// Rules 10: removes the run frame by frame, a record for each.
+#[no_mangle]
+pub extern "C" fn doorsedge_drain(
+    head: &mut [u64; 9],
+    elems: &mut [u64],
+    shared: &mut [u64],
+    slot: u64,
+    generation: u64,
+    records: &mut [u64],
+    out: &mut [u64; 1],
+) -> u64
+    ensures { λ r. ⌜ AtHost (drain (keyOf slot generation)) values (now (head .entry)) (now (elems .entry)) (now (shared .entry)) (now (records .entry)) (now (out .entry)) (left r (now (head .exit)) (now (elems .exit)) (now (shared .exit)) (now (records .exit)) (now (out .exit))) ⌝ }
+{
+    let step = door::drain(
+        unpack(*head),
+        elems,
+        shared,
+        Key {
+            slot: slot,
+            generation: generation,
+        },
+        records,
+    );
+    let next = step.head;
+    *head = pack(next);
+    let answer = step.answer;
+    answers::number(answer, out)
+}
