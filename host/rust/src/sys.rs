@@ -29,6 +29,19 @@ pub struct LentHead {
     pub generation: u64,
 }
 
+impl From<Head> for LentHead {
+    fn from(head: Head) -> LentHead {
+        let pool = |i: usize| Pool { capacity: head[i], extent: head[i + 1], root: head[i + 2], live: head[i + 3] };
+        LentHead { elems: pool(0), shared: pool(4), generation: head[8] }
+    }
+}
+
+impl From<LentHead> for Head {
+    fn from(LentHead { elems: e, shared: s, generation }: LentHead) -> Head {
+        [e.capacity, e.extent, e.root, e.live, s.capacity, s.extent, s.root, s.live, generation]
+    }
+}
+
 /// What stands in for an entry that the archive lacks gives this number; no entry of the archive does.
 pub const ABSENT: u64 = 99;
 

@@ -7,7 +7,7 @@ mod measure;
 mod sides;
 
 use measure::{Batch, checks, least, single_calls, unions, whole_calls};
-use sides::Side::{self, Archive, Door, Oracle, Rows};
+use sides::Side::{self, Archive, Door, InPlace, Oracle, Rows};
 use std::time::Duration;
 
 const SIZES: [usize; 3] = [512, 4_096, 65_536];
@@ -45,6 +45,13 @@ fn calls() {
         // a call takes as long as its check: few are enough
         for batch in single_calls(n, 65_536 / n) {
             line(&batch, n, &[Archive, Door], &[(0, 1)], budget);
+        }
+    }
+    head("The head lent in place, ns a call, beside the head as numbers.", &["in place", "archive", "i/a"]);
+    let is_writers = |batch: &&Batch| ["insert", "remove_element"].contains(&batch.name);
+    for n in SIZES {
+        for batch in single_calls(n, 65_536 / n).iter().filter(is_writers) {
+            line(batch, n, &[InPlace, Archive], &[(0, 1)], budget);
         }
     }
     head("Calls alone, ns a call: rows arena in plain Rust, and the oracle.", &["rows", "oracle", "r/o"]);

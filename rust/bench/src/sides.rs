@@ -1,6 +1,8 @@
 //! The sides that are timed. All are given the same calls on the same state.
 
 use archive::Host;
+use doorsedge::sys::LentHead;
+use doorsedge::{Key as Frame, Writer};
 use model::door::{self, Call};
 use model::{Head, Key, Rows, check};
 use std::hint::black_box;
@@ -16,6 +18,8 @@ pub type Oracle = SurjectArena<P0, u64, u64>;
 pub enum Side {
     /// A call of the archive, with its check.
     Archive,
+    /// The same with the head lent in place: insert and remove alone.
+    InPlace,
     /// The same in plain Rust.
     Door,
     /// The call alone on a rows arena in plain Rust.
@@ -80,6 +84,14 @@ impl Bed {
                     assert_eq!(archive::run(head, elems, shared, black_box(call), lent, &mut out), 0);
                 }
             }
+            Side::InPlace => {
+                let mut lent = LentHead::from(*head);
+                let mut writer = Writer { head: &mut lent, elems, shared };
+                for call in calls {
+                    assert!(black_box(write(&mut writer, black_box(call))).is_some());
+                }
+                *head = lent.into();
+            }
             Side::Door => {
                 for call in calls {
                     assert_eq!(door::run(check::sound, head, elems, shared, black_box(call), lent, &mut out), 0);
@@ -100,6 +112,15 @@ impl Bed {
             }
         }
         black_box(out);
+    }
+}
+
+/// The writer's two calls.
+fn write(writer: &mut Writer, call: &Call) -> Option<u64> {
+    match *call {
+        Call::Insert(k, payload) => writer.insert(Frame::new(k.slot, k.generation), payload).ok().map(|key| key.slot()),
+        Call::RemoveElement(k) => writer.remove(Frame::new(k.slot, k.generation)).ok().map(|out| out.payload),
+        _ => None,
     }
 }
 

@@ -1,19 +1,14 @@
 //! The writer's two calls with the head lent in place: number for number as the model's insert and remove.
 
 use archive::{Host, UNTOUCHED, key};
-use doorsedge::sys::{LentHead, Pool, doorsedge_insert_in_place, doorsedge_remove_in_place};
+use doorsedge::sys::{LentHead, doorsedge_insert_in_place, doorsedge_remove_in_place};
 use model::door::{self, Call};
 use model::sets;
-
-fn lent(head: [u64; 9]) -> LentHead {
-    let pool = |i: usize| Pool { capacity: head[i], extent: head[i + 1], root: head[i + 2], live: head[i + 3] };
-    LentHead { elems: pool(0), shared: pool(4), generation: head[8] }
-}
 
 /// Makes the call on the archive and on the model, compares every number, and answers the refusal's number.
 fn same(host: &mut Host, call: Call) -> u64 {
     let (mut head, mut elems, mut shared, mut out) =
-        (lent(host.head), host.elems.clone(), host.shared.clone(), [UNTOUCHED; 4]);
+        (LentHead::from(host.head), host.elems.clone(), host.shared.clone(), [UNTOUCHED; 4]);
     let (e, en, s, sn, o) = (elems.as_mut_ptr(), elems.len(), shared.as_mut_ptr(), shared.len(), out.as_mut_ptr());
     // Safety: pointers and lengths are those of vectors, each apart; `out` has the most places
     let number = unsafe {
@@ -31,7 +26,7 @@ fn same(host: &mut Host, call: Call) -> u64 {
     let expected =
         door::run(sets::sound, &mut host.head, &mut host.elems, &mut host.shared, &call, &mut [], &mut wanted);
     assert_eq!((number, out), (expected, wanted), "{call:?}");
-    assert_eq!((head, &elems, &shared), (lent(host.head), &host.elems, &host.shared), "{call:?}");
+    assert_eq!((head, &elems, &shared), (host.head.into(), &host.elems, &host.shared), "{call:?}");
     number
 }
 
