@@ -99,3 +99,21 @@ pub extern "C" fn doorsedge_drain(
     let answer = step.answer;
     answers::number(answer, out)
 }
+
+// Rules 11: drains every run, then clears.
+#[no_mangle]
+pub extern "C" fn doorsedge_drain_all(
+    head: &mut [u64; 9],
+    elems: &mut [u64],
+    shared: &mut [u64],
+    records: &mut [u64],
+    out: &mut [u64; 1],
+) -> u64
+    ensures { λ r. ⌜ AtHost (drainAll) values (now (head .entry)) (now (elems .entry)) (now (shared .entry)) (now (records .entry)) (now (out .entry)) (left r (now (head .exit)) (now (elems .exit)) (now (shared .exit)) (now (records .exit)) (now (out .exit))) ⌝ }
+{
+    let step = door::drain_all(unpack(*head), elems, shared, records);
+    let next = step.head;
+    *head = pack(next);
+    let answer = step.answer;
+    answers::number(answer, out)
+}

@@ -1,0 +1,41 @@
+use Rattle.host.proofs.Kit.{hosted}
+use borrow.Author.Needs.{needs}
+use Rattle.host.proofs.whole.doorsedge_drain_all.Statement.{statement}
+use Rattle.host.proofs.whole.doorsedge_drain_all.Tie as tie
+
+unpack-requires : tie.Need-unpack-requires
+unpack-requires c κs = search needs
+
+drain-all-requires : tie.Need-drain-all-requires
+drain-all-requires c κs = search needs
+
+pack-requires : tie.Need-pack-requires
+pack-requires c κs = search needs
+
+number-requires : tie.Need-number-requires
+number-requires c κs = search needs
+
+same-length : tie.Need-same-length
+same-length c = search needs
+
+same-length-2 : tie.Need-same-length-2
+same-length-2 c = search needs
+
+same-length-3 : tie.Need-same-length-3
+same-length-3 c = search needs
+
+returns : tie.Need-returns
+returns c = hosted _ _ _ _ _ _ _ _ _ _ _ _ _ _ _ _ (c .before .before .before .before .before .before .before .before .before .before .before .before .before .before .unpack .ensures) (c .before .before .before .before .before .before .before .before .before .before .drain-all .ensures) (c .before .before .pack .ensures) (c .number .ensures _)
+
+pub doorsedge-drain-all-spec : {M : Type 1} → statement M
+doorsedge-drain-all-spec =
+    tie.close
+    (tie.spec
+    unpack-requires
+    drain-all-requires
+    pack-requires
+    number-requires
+    same-length
+    same-length-2
+    same-length-3
+    returns)
