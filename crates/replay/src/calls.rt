@@ -1,0 +1,140 @@
+// A record's call, made at the host's door and compared with the record's answers: reads and sets here.
+use crate::answers::COUNT;
+use crate::answers::REFUSED;
+use crate::answers::is_answer;
+use crate::answers::is_done;
+use crate::answers::is_number;
+use crate::answers::is_refused;
+use crate::answers::is_ring;
+use crate::answers::is_same;
+use crate::frames;
+use crate::names::key;
+use crate::names::number;
+use crate::names::wide;
+use crate::whole;
+use rules::Head;
+use rules::Key;
+use rules::Number;
+
+// The head after a call, and whether the answer was the same.
+pub struct Next {
+    pub head: Head,
+    pub same: bool,
+}
+
+pub fn make(
+    head: Head,
+    elems: &mut [u64; 80],
+    shared: &mut [u64; 48],
+    given: &mut [u64; 512],
+    record: &[u8; 32],
+) -> Next {
+    let kind = record[0];
+    if kind == 0 || 15 <= kind {
+        return whole::make(head, elems, shared, given, record);
+    }
+    if 9 <= kind && kind <= 13 {
+        return frames::make(head, elems, shared, given, record);
+    }
+    if 6 <= kind && kind <= 8 {
+        let same = set(head, elems, shared, given, record);
+        return Next { head, same };
+    }
+    let same = read(head, elems, shared, given, record);
+    Next { head, same }
+}
+
+fn read(head: Head, elems: &[u64], shared: &[u64], given: &[u64; 512], record: &[u8; 32]) -> bool {
+    let k = key(given, record[1]);
+    let kind = record[0];
+    if kind == 1 {
+        return is_done(door::check(head, elems, shared), record);
+    }
+    if kind == 2 {
+        return is_number(door::len_surject(head, elems, shared, k), record);
+    }
+    if kind == 3 {
+        return is_same(
+            door::in_same_surject(head, elems, shared, k, key(given, record[2])),
+            record,
+        );
+    }
+    if kind == 4 {
+        return is_number(door::get(head, elems, shared, k), record);
+    }
+    if kind == 5 {
+        return is_number(door::get_shared(head, elems, shared, k), record);
+    }
+    list(head, elems, shared, k, given, record)
+}
+
+fn list(
+    head: Head,
+    elems: &[u64],
+    shared: &[u64],
+    k: Key,
+    given: &[u64; 512],
+    record: &[u8; 32],
+) -> bool {
+    let mut places = [0u64; 32];
+    let answer = door::list(head, elems, shared, k, &mut places);
+    match answer {
+        Number::Is(n) => record[REFUSED] == 0
+            && n == number(record[COUNT])
+            && is_ring(wide(record[COUNT]), 2, &places, given, record),
+        Number::Refused(refusal) => is_refused(refusal, record),
+    }
+}
+
+fn set(
+    head: Head,
+    elems: &mut [u64],
+    shared: &mut [u64],
+    given: &[u64; 512],
+    record: &[u8; 32],
+) -> bool {
+    let k = key(given, record[1]);
+    let new = number(record[5]);
+    let kind = record[0];
+    if kind == 6 {
+        return is_number(door::set(head, elems, shared, k, new), record);
+    }
+    if kind == 7 {
+        return is_number(door::set_shared(head, elems, shared, k, new), record);
+    }
+    exchange(head, elems, shared, given, record)
+}
+
+fn exchange(
+    head: Head,
+    elems: &[u64],
+    shared: &mut [u64],
+    given: &[u64; 512],
+    record: &[u8; 32],
+) -> bool {
+    let keys = [
+        key(given, record[1]),
+        key(given, record[2]),
+        key(given, record[3]),
+        key(given, record[4]),
+    ];
+    let values = [
+        number(record[5]),
+        number(record[6]),
+        number(record[7]),
+        number(record[8]),
+    ];
+    let said = door::exchange_disjoint_shared(head, elems, shared, keys, values);
+    let answer = said.answer;
+    let old = said.old;
+    if record[REFUSED] != 0 {
+        return is_done(answer, record);
+    }
+    if !is_done(answer, record) {
+        return false;
+    }
+    is_answer(0, old[0], record)
+        && is_answer(1, old[1], record)
+        && is_answer(2, old[2], record)
+        && is_answer(3, old[3], record)
+}

@@ -1,0 +1,69 @@
+// The map from the sample's frames to keys, kept as keys are given: a slot for each frame, then a generation for each.
+// Frame 255 was never given one.
+use rules::Key;
+
+pub fn wide(x: u8) -> usize {
+    x as usize
+}
+
+pub fn number(x: u8) -> u64 {
+    x as u64
+}
+
+pub fn key(given: &[u64; 512], frame: u8) -> Key {
+    let at = wide(frame);
+    if 256 <= at {
+        return Key {
+            slot: 0,
+            generation: 0,
+        };
+    }
+    Key {
+        slot: given[at],
+        generation: given[at + 256],
+    }
+}
+
+pub fn learn(given: &mut [u64; 512], frame: u8, key: Key) {
+    let at = wide(frame);
+    if 256 <= at {
+        return;
+    }
+    given[at] = key.slot;
+    given[at + 256] = key.generation;
+}
+
+pub fn forget(given: &mut [u64; 512]) {
+    *given = [0; 512];
+}
+
+// The frame in a slot is known by its payload, which is its name in the sample.
+fn relearn_slot(given: &mut [u64; 512], elems: &[u64; 80], slot: usize) -> bool {
+    if slot == 0 {
+        return true;
+    }
+    if 16 < slot {
+        return true;
+    }
+    let generation = elems[slot * 5 - 5];
+    let frame = elems[slot * 5 - 4];
+    if generation == 0 {
+        return true;
+    }
+    if 255 <= frame {
+        return true;
+    }
+    let at = frame as usize;
+    given[at] = slot as u64;
+    given[at + 256] = generation;
+    true
+}
+
+// After compression every frame has a new key.
+pub fn relearn(given: &mut [u64; 512], elems: &[u64; 80]) {
+    forget(given);
+    let mut slot: usize = 16;
+    while slot > 0 && relearn_slot(given, elems, slot) {
+        slot -= 1;
+    }
+}
