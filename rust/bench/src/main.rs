@@ -1,12 +1,12 @@
 //! `bench`: each call of the archive beside the plain Rust rows arena and the oracle. `bench door`: the soundness check and
-//! what a host call adds to it. `bench count`: instructions. All times of a line are from the same rounds; ratios are what
+//! what a host call adds to it. `bench compress`: compression as tables grow. `bench count`: instructions. All times of a line are from the same rounds; ratios are what
 //! to read.
 
 mod count;
 mod measure;
 mod sides;
 
-use measure::{Batch, checks, least, single_calls, unions, whole_calls};
+use measure::{Batch, checks, compressions, least, single_calls, unions, whole_calls};
 use sides::Side::{self, Archive, Door, InPlace, Oracle, Rows};
 use std::time::Duration;
 
@@ -117,6 +117,25 @@ fn door() {
     }
 }
 
+fn compress() {
+    let budget = Duration::from_millis(150);
+    println!("\nCompression, ns a frame; `alone` is the archive's call less its check.");
+    print!("{:<26}{:>7}", "", "slots");
+    ["archive", "check", "alone", "rows", "oracle"].iter().for_each(|column| print!("{column:>12}"));
+    println!("{:>12}{:>12}", "alone/rows", "alone/o");
+    for n in [1_024, 8_192, 65_536] {
+        for batch in compressions(n) {
+            let times = least(&batch, &[Archive, Rows, Oracle], budget);
+            let check = least(&Batch { calls: vec![model::door::Call::Check], ..batch }, &[Archive], budget)[0];
+            let (archive, rows, oracle) = (times[0], times[1], times[2]);
+            let alone = archive - check;
+            print!("{:<26}{n:>7}", batch.name);
+            [archive, check, alone, rows, oracle].iter().for_each(|time| print!("{:>12}", shown(*time)));
+            println!("{:>12.2}{:>12.2}", alone / rows, alone / oracle);
+        }
+    }
+}
+
 fn main() {
     let words: Vec<String> = std::env::args().skip(1).collect();
     if let [word, batch, side] = &words[..]
@@ -134,12 +153,14 @@ fn main() {
         None => {
             calls();
             door();
+            compress();
             count::table();
         }
         Some("door") => door(),
+        Some("compress") => compress(),
         Some("count") => count::table(),
         Some(_) => {
-            eprintln!("usage: bench [door|count]");
+            eprintln!("usage: bench [door|compress|count]");
             std::process::exit(2);
         }
     }

@@ -102,6 +102,27 @@ pub fn whole_calls(n: usize) -> Vec<Batch> {
     ]
 }
 
+/// Compression of full tables: rings of one, one ring in shuffled order, and the longest follow. Times are for each frame.
+pub fn compressions(n: usize) -> Vec<Batch> {
+    let mut seed = 88_172_645_463_325_252;
+    let pick = |most: usize| {
+        next(&mut seed);
+        seed as usize % most
+    };
+    let batch = |name, bed| Batch { name, bed, calls: vec![Call::CompressCanonical { reset: 0 }], per: n };
+    vec![
+        batch("rings of one", Bed::new(n, n, 1)),
+        batch("one ring, shuffled", Bed::one_ring(n, pick)),
+        batch("headers one on", Bed::headers_one_on(n)),
+    ]
+}
+
+fn next(seed: &mut u64) {
+    *seed ^= *seed << 13;
+    *seed ^= *seed >> 7;
+    *seed ^= *seed << 17;
+}
+
 /// Runs of one joined two by two, four by four and so on, to one ring: times are for each union.
 pub fn unions(n: usize) -> Batch {
     let bed = Bed::new(n, n, 1);
@@ -143,9 +164,7 @@ fn shuffle(bed: &mut Bed) {
     let mut to: Vec<usize> = (0..n).collect();
     let mut seed = 88_172_645_463_325_252u64;
     for i in (1..n).rev() {
-        seed ^= seed << 13;
-        seed ^= seed >> 7;
-        seed ^= seed << 17;
+        next(&mut seed);
         to.swap(i, seed as usize % (i + 1));
     }
     let old = bed.host.elems.clone();

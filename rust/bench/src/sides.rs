@@ -59,6 +59,49 @@ impl Bed {
         Bed { host, oracle, lent: vec![0; 6 * n] }
     }
 
+    /// A state made by calls on both sides. `make` is handed the rows arena, and the oracle by the same keys.
+    fn made(n: usize, make: impl FnOnce(&mut Rows, &mut Oracle)) -> Bed {
+        let mut bed = Bed::new(n, 0, 1);
+        let mut head = Head::of(&bed.host.head);
+        let mut rows = Rows { head: &mut head, elems: &mut bed.host.elems, shared: &mut bed.host.shared };
+        make(&mut rows, &mut bed.oracle);
+        bed.host.head = head.numbers();
+        bed
+    }
+
+    /// One ring of `n` frames, each put in after one that `pick` gives of those before it.
+    pub fn one_ring(n: usize, mut pick: impl FnMut(usize) -> usize) -> Bed {
+        Bed::made(n, |rows, oracle| {
+            let mut keys = vec![rows.insert_surject(0, 7).unwrap()];
+            oracle.insert_surject_within_capacity(0, 7).unwrap();
+            for i in 1..n {
+                let at = keys[pick(i)];
+                keys.push(rows.insert(at, i as u64).unwrap());
+                oracle.insert_within_capacity(ptr(at), i as u64).unwrap();
+            }
+        })
+    }
+
+    /// Rings of one in which every header stands one slot on, and the last one first: compression's longest follow.
+    pub fn headers_one_on(n: usize) -> Bed {
+        Bed::made(n, |rows, oracle| {
+            let begin = |rows: &mut Rows, oracle: &mut Oracle, payload: u64| {
+                oracle.insert_surject_within_capacity(payload, payload).unwrap();
+                rows.insert_surject(payload, payload).unwrap()
+            };
+            let mut last = begin(rows, oracle, 1);
+            for i in 1..n as u64 {
+                // the next run's header goes to the last frame, and the first shared slot is free again
+                let next = begin(rows, oracle, i + 1);
+                rows.union(next, last).unwrap();
+                oracle.union(ptr(next), ptr(last)).unwrap();
+                rows.remove_element(next).unwrap();
+                oracle.remove_element(ptr(next)).allow().unwrap();
+                last = begin(rows, oracle, i + 1);
+            }
+        })
+    }
+
     pub fn restored(&self) -> Bed {
         Bed { host: self.host.clone(), oracle: self.oracle.clone(), lent: self.lent.clone() }
     }
