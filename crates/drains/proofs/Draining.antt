@@ -28,11 +28,11 @@ use Rattle.rules.proofs.laws.Stored.{Still, still-then}
 use Rattle.rules.proofs.laws.Remove.{removed-still, remove-keeps}
 use Rattle.rules.proofs.laws.Drained.{onward}
 use Rattle.slots.proofs.Places.{puts, row-puts}
-use Rattle.runs.specs.Asked.{OnLive}
+use Rattle.slots.specs.Asked.{OnLive}
 use Rattle.drains.specs.Asked.{Run}
 use Rattle.drains.specs.Answered.{lastMark, lastValue}
-use Rattle.drains.proofs.Written.{written-next}
-use Rattle.drains.proofs.Kit.{written-3, written-7, written-done}
+use Rattle.rings.proofs.Written.{written-next}
+use Rattle.rings.proofs.Ways.{written-3, written-7, written-done}
 
 rest-fields : (r : Rest) → restFields r ≡ lastMark r ∷ lastValue r ∷ []
 rest-fields GoesOn = refl

@@ -32,7 +32,7 @@ use Rattle.rules.proofs.laws.Safe.{LiveSlot, safe, working}
 use Rattle.rules.proofs.laws.Stored.{Still, still-then}
 use Rattle.rules.proofs.laws.Remove.{removeV, removed-on, removed-last, removed-still}
 use Rattle.drains.specs.Asked.{Run}
-use Rattle.drains.proofs.Written.{sets-append, written-all}
+use Rattle.rings.proofs.Written.{sets-append, written-all}
 use Rattle.drains.proofs.Draining.{records-long, run-next, live-slot, used-slot}
 
 -- ---- one frame goes

@@ -1,20 +1,15 @@
 -- What the functions over whole runs answer.
 use Prim.Native.Nat.{ℕ, _*_}
 use mathlib.Core.Path.{_≡_}
-use mathlib.Core.List.{List, [], _∷_, _++_, map}
+use mathlib.Core.List.{List, _++_}
 use lib.ListN.{length, drop}
 use lib.Seq.{sets}
 use Rattle.rules.specs.declared.Head.{Head}
 use Rattle.rules.specs.declared.Rest.{Rest}
 use Rattle.rules.specs.declared.Rest.the-variants.{GoesOn, Last}
-use Rattle.rules.specs.Notation.{along, flat}
-use Rattle.rules.specs.Tables.{generationOf, nextOf, State, stateOf, row}
+use Rattle.rules.specs.Tables.{State, stateOf, row}
 use Rattle.rules.specs.Runs.{removed}
 use Rattle.rules.specs.Drains.{recordWidth, drainRecord, drainRecords, drained, allRecords, allDrained}
-
--- Rules 9: the keys of `n` frames along next from `x`
-abbrev pub keysAlong : List ℕ → (n x : ℕ) → List ℕ
-keysAlong e n x = flat (map (λ s. s ∷ generationOf e s ∷ []) (along (nextOf e) n x))
 
 -- Rules 10: what a record says of the run, as two numbers
 abbrev pub lastMark : Rest → ℕ

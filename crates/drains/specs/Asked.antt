@@ -3,21 +3,10 @@ use Prim.Native.Nat.{ℕ, _+_, _*_, _≤_, _<_}
 use mathlib.Core.Path.{_≡_}
 use mathlib.Core.List.{List}
 use lib.ListN.{length}
-use Rattle.rules.specs.Tables.{frameWidth, nextOf, State, sizeAt}
+use Rattle.rules.specs.Tables.{State, sizeAt}
 use Rattle.rules.specs.Drains.{recordWidth}
 use Rattle.rules.specs.Calls.{Ready}
-use Rattle.rules.proofs.laws.Lists.{All, NoDup, Walk}
 use Rattle.rules.proofs.laws.Safe.{LiveSlot}
-use Rattle.slots.specs.Asked.{Within}
-
--- `n` frames along next from `x` stand in the table, none twice
-pub record Apart (e : List ℕ) (n x : ℕ) : Type 0 where
-  pub slots : List ℕ
-  pub end : ℕ
-  pub walk : Walk (nextOf e) x end slots
-  pub once : NoDup slots
-  pub each : All (Within frameWidth e) slots
-  pub sized : length slots ≡ n
 
 -- a run of `n` frames that begins at `x`, where there are any
 pub record Run (st : State) (n x : ℕ) : Type 0 where

@@ -1,5 +1,5 @@
 // Rules 10: drain a run.
-use crate::lists::size_at;
+use rings::lists::size_at;
 use rules::FRAME;
 use rules::Found;
 use rules::GENERATION;
@@ -20,7 +20,7 @@ ghost use Rattle.rules.specs.Calls as calls;
 ghost use Rattle.rules.specs.Calls.{Ready, step};
 ghost use Rattle.rules.specs.Answers.{afterNumber};
 ghost use Rattle.slots.specs.Asked.{Within};
-ghost use Rattle.runs.specs.Asked.{OnLive};
+ghost use Rattle.slots.specs.Asked.{OnLive};
 ghost use Rattle.drains.specs.Asked.{Drains};
 ghost use Rattle.drains.specs.Answered.{lastMark, lastValue, Gone, Drained};
 

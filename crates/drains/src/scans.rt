@@ -1,14 +1,14 @@
 // Rules 11: drain all.
-use crate::lists::size_at;
 use crate::records::RECORD_WIDTH;
 use crate::records::drain_run;
-use crate::wipes::clear;
+use rings::lists::size_at;
 use rules::FRAME;
 use rules::GENERATION;
 use rules::Head;
 use rules::HeadNumber;
 use rules::Number;
 use rules::Refusal;
+use wipes::clear;
 ghost use mathlib.Core.Path.{_≡_};
 ghost use Prim.Native.Nat.{_*_, _≤_};
 ghost use lib.ListN.{length};

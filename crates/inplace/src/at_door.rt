@@ -18,7 +18,7 @@ pub fn insert_in_place(
 ) -> Inserted
     ensures { λ r. ⌜ AtDoor (stateOf (now (head .entry)) (now (elems .entry)) (now (shared .entry))) [] (insert at payload) (leaves (now (head .exit)) (now (elems .exit)) (now (shared .exit)) [] (saidInserted r)) ⌝ }
 {
-    let r = door::insert(*head, elems, shared, at, payload);
+    let r = door_runs::insert(*head, elems, shared, at, payload);
     *head = r.head;
     r.answer
 }
@@ -27,7 +27,7 @@ pub fn insert_in_place(
 pub fn remove_in_place(head: &mut Head, elems: &mut [u64], shared: &mut [u64], key: Key) -> TakenOut
     ensures { λ r. ⌜ AtDoor (stateOf (now (head .entry)) (now (elems .entry)) (now (shared .entry))) [] (remove key) (leaves (now (head .exit)) (now (elems .exit)) (now (shared .exit)) [] (saidRemoved (r .answer) (r .over))) ⌝ }
 {
-    let r = door::remove_element(*head, elems, shared, key);
+    let r = door_runs::remove_element(*head, elems, shared, key);
     *head = r.head;
     TakenOut {
         answer: r.answer,

@@ -47,7 +47,7 @@ pub fn obey_line(
             tell_joined(out, at, r)
         }
         Line::List(key) => {
-            let answer = drains::list(head, elems, shared, key, keys);
+            let answer = rings::list(head, elems, shared, key, keys);
             let next = put_ring(out, at, answer, keys);
             Obeyed { head, next }
         }

@@ -20,7 +20,8 @@ use Rattle.rules.specs.Answers.{afterJoined}
 use Rattle.slots.specs.Asked.{Next}
 use Rattle.slots.proofs.Rewrites.{rewritten-next, length-rewritten}
 use Rattle.runs.specs.declared.unions.Roles.{Roles}
-use Rattle.runs.specs.Asked.{OnLive, BothLive}
+use Rattle.slots.specs.Asked.{OnLive}
+use Rattle.runs.specs.Asked.{BothLive}
 use Rattle.runs.specs.Answered.{unionAt}
 
 -- a live slot and its next stand in the table after the rewrite

@@ -1,4 +1,3 @@
-pub mod Kit
+pub mod Room
 pub mod Joining
 pub mod Leaving
-pub mod Fours

@@ -1,16 +1,15 @@
 -- What the calls' inner steps answer.
 use Prim.Native.Nat.{ℕ}
 use mathlib.Core.Path.{_≡_}
-use mathlib.Core.List.{List, map}
+use mathlib.Core.List.{List}
 use Rattle.rules.specs.declared.Key.{Key}
 use Rattle.rules.specs.declared.Rest.the-variants.{GoesOn, Last}
 use Rattle.rules.specs.declared.Refusal.the-variants.{SameClass}
 use Rattle.rules.specs.Notation.{if_then_else_, _==_, _<?_}
-use Rattle.rules.specs.Tables.{classOf, payloadOf, countOf, valueOf, State, stateOf, withShared, sizeAt}
-use Rattle.rules.specs.Refusals.{Ruling, refuse, answer}
+use Rattle.rules.specs.Tables.{classOf, payloadOf, countOf, valueOf, State, stateOf, sizeAt}
+use Rattle.rules.specs.Refusals.{Ruling, refuse}
 use Rattle.rules.specs.Slots.{overflows}
 use Rattle.rules.specs.Runs.{keeping, left, removed, restOf}
-use Rattle.rules.specs.Exchange.{allDiffer, valued}
 use Rattle.runs.specs.declared.removes.Left.{Left}
 use Rattle.runs.specs.declared.removes.Removal.{Removal}
 
@@ -32,11 +31,3 @@ pub record RemovedAt (st : State) (x : ℕ) (r : Removal) (e s : List ℕ) : Typ
   pub payload : r .payload ≡ payloadOf (st .elems) x
   pub rest : r .rest ≡ restOf st x
   pub over : r .over ≡ overflows st
-
--- Rules 13: the exchange on the slots of live keys
-unfoldable pub exchangeAt : State → (slots values : List ℕ) → Ruling
-exchangeAt st xs values =
-    let classes = map (classOf (st .elems)) xs in
-    if allDiffer classes
-    then answer (map (valueOf (st .shared)) classes) (withShared st (valued (st .shared) classes values))
-    else refuse SameClass

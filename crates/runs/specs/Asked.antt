@@ -5,16 +5,10 @@ use mathlib.Core.Bool.{false}
 use mathlib.Core.List.{List}
 use Rattle.rules.specs.declared.Head.{Head}
 use Rattle.rules.specs.declared.Pool.{Pool}
-use Rattle.rules.specs.Tables.{frameWidth, headerWidth, classOf, countOf, State}
+use Rattle.rules.specs.Tables.{headerWidth, countOf, State}
 use Rattle.rules.specs.Slots.{isFull}
-use Rattle.rules.proofs.laws.Safe.{Safe, LiveSlot, SafeFrame}
-use Rattle.slots.specs.Asked.{Within}
-
--- a live slot
-pub record OnLive (st : State) (x : ℕ) : Type 0 where
-  pub safe : Safe st
-  pub live : LiveSlot st x
-  pub frame : SafeFrame st x
+use Rattle.rules.proofs.laws.Safe.{Safe}
+use Rattle.slots.specs.Asked.{Within, OnLive}
 
 -- two live slots
 pub record BothLive (st : State) (x y : ℕ) : Type 0 where
@@ -36,21 +30,3 @@ pub record Leaves (h : Head) (s : List ℕ) (class : ℕ) : Type 0 where
   pub header : Within headerWidth s class
   pub count : 1 ≤ countOf s class
   pub live : 1 ≤ h .shared .live
-
--- four shared slots stand in the table
-pub record FourHeaders (s : List ℕ) (a b c d : ℕ) : Type 0 where
-  pub first : Within headerWidth s a
-  pub second : Within headerWidth s b
-  pub third : Within headerWidth s c
-  pub fourth : Within headerWidth s d
-
--- a frame and its class's header stand in the tables; so do those of four
-pub record Classed (e s : List ℕ) (x : ℕ) : Type 0 where
-  pub frame : Within frameWidth e x
-  pub header : Within headerWidth s (classOf e x)
-
-pub record FourClassed (e s : List ℕ) (w x y z : ℕ) : Type 0 where
-  pub first : Classed e s w
-  pub second : Classed e s x
-  pub third : Classed e s y
-  pub fourth : Classed e s z

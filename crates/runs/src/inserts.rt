@@ -16,7 +16,8 @@ ghost use Rattle.rules.specs.Tables.{stateOf};
 ghost use Rattle.rules.specs.Runs.{begun, inserted};
 ghost use Rattle.rules.specs.Calls.{Ready, step, newRun, insert};
 ghost use Rattle.rules.specs.Answers.{afterInserted};
-ghost use Rattle.runs.specs.Asked.{HasRoom, OnLive, RoomFor};
+ghost use Rattle.slots.specs.Asked.{OnLive};
+ghost use Rattle.runs.specs.Asked.{HasRoom, RoomFor};
 
 // A frame and a header are taken: a ring of one, count 1.
 fn begin(head: Head, elems: &mut [u64], shared: &mut [u64], payload: u64, value: u64) -> Head

@@ -18,7 +18,8 @@ ghost use Prim.Native.Nat.{ℕ};
 ghost use Rattle.rules.specs.Tables.{stateOf};
 ghost use Rattle.rules.specs.Calls.{Ready, step, remove};
 ghost use Rattle.rules.specs.Answers.{afterRemoved};
-ghost use Rattle.runs.specs.Asked.{OnLive, Leaves};
+ghost use Rattle.slots.specs.Asked.{OnLive};
+ghost use Rattle.runs.specs.Asked.{Leaves};
 ghost use Rattle.runs.specs.Answered.{LeftClass, RemovedAt};
 
 // What a class is left as: the head, and what is said of the run.

@@ -18,7 +18,7 @@ ghost use Rattle.rules.specs.Refusals.{outcome};
 ghost use Rattle.rules.specs.Runs.{keeping};
 ghost use Rattle.rules.specs.Calls.{Ready, step, union};
 ghost use Rattle.rules.specs.Answers.{afterJoined};
-ghost use Rattle.runs.specs.Asked.{OnLive, BothLive};
+ghost use Rattle.runs.specs.Asked.{BothLive};
 ghost use Rattle.runs.specs.Answered.{unionAt};
 
 // Which slot's class is kept, which one's goes, and the key of the class kept.

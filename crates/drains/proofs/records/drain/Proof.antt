@@ -1,6 +1,6 @@
 use mathlib.Core.Path.{_∙_, sym}
 use native.Mathlib.Omega.{arith}
-use Rattle.runs.proofs.Kit.{on-live}
+use Rattle.slots.proofs.Live.{on-live}
 use Rattle.rules.proofs.laws.Safe.{safe}
 use Rattle.drains.proofs.Draining.{drain-3, drain-7, drain-done}
 use borrow.Author.Needs.{needs}

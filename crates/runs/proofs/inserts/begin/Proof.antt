@@ -1,4 +1,4 @@
-use Rattle.runs.proofs.Kit.{given}
+use Rattle.runs.proofs.Room.{given}
 use Rattle.rules.specs.Runs.{begun}
 use borrow.Author.Needs.{needs}
 use Rattle.runs.proofs.inserts.begin.Statement.{statement}

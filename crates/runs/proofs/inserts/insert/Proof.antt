@@ -1,4 +1,4 @@
-use Rattle.runs.proofs.Kit.{on-live}
+use Rattle.slots.proofs.Live.{on-live}
 use Rattle.rules.proofs.laws.Safe.{safe}
 use Rattle.rules.specs.Runs.{insert}
 use mathlib.Core.Path.{_∙_}

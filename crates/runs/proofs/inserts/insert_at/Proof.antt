@@ -1,4 +1,4 @@
-use Rattle.runs.proofs.Kit.{given}
+use Rattle.runs.proofs.Room.{given}
 use Rattle.slots.specs.Answered.{spliced}
 use Rattle.rules.specs.Runs.{inserted}
 use borrow.Author.Needs.{needs}

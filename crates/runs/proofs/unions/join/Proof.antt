@@ -1,5 +1,5 @@
 use Rattle.runs.proofs.Joining.{next-in, joined-by, keeping-by}
-use Rattle.runs.proofs.Kit.{along-live}
+use Rattle.slots.proofs.Live.{all-in}
 use borrow.Author.Needs.{needs}
 use Rattle.runs.proofs.unions.join.Statement.{statement}
 use Rattle.runs.proofs.unions.join.Tie as tie
@@ -20,7 +20,7 @@ get-requires-5 : tie.Need-get-requires-5
 get-requires-5 c κs = search needs
 
 rewrite-requires : tie.Need-rewrite-requires
-rewrite-requires c κs = along-live _ _ _ (c .before .before .before .before .before .before .before .before .before .before .before .before .before .pre .second)
+rewrite-requires c κs = let o = c .before .before .before .before .before .before .before .before .before .before .before .before .before .pre .second in all-in _ _ _ (o .safe) (o .live)
 
 exchange-requires : tie.Need-exchange-requires
 exchange-requires c κs = rw (c .before .before .before .rewrite .ensures) (next-in _ _ _ _ _ (c .before .before .before .before .before .before .before .before .before .before .before .before .before .before .before .before .before .pre .first), next-in _ _ _ _ _ (c .before .before .before .before .before .before .before .before .before .before .before .before .before .before .before .before .before .pre .second))

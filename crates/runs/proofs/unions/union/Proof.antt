@@ -1,4 +1,4 @@
-use Rattle.runs.proofs.Kit.{on-live}
+use Rattle.slots.proofs.Live.{on-live}
 use Rattle.runs.specs.Answered.{unionAt}
 use Rattle.rules.proofs.laws.Safe.{safe}
 use Rattle.rules.specs.Runs.{union}

@@ -1,0 +1,3 @@
+-- What the exchange's steps ask and answer.
+pub mod Asked
+pub mod Answered

@@ -1,0 +1,4 @@
+pub mod Written
+pub mod Ways
+pub mod Listing
+pub mod Freeing
