@@ -1,36 +1,15 @@
 -- What the proofs of the entries share: an entry that unpacks the head, calls the door, packs the next head and tells the answer keeps its promise.
 use Prim.Native.Nat.{ℕ}
-use mathlib.Core.Path.{_≡_, refl, sym, ap, _∙_}
-use mathlib.Core.Bool.{Bool}
+use mathlib.Core.Path.{_≡_, ap, _∙_}
 use mathlib.Core.List.{List, []}
 use Rattle.rules.specs.declared.Head.{Head}
-use Rattle.rules.specs.Notation.{if_then_else_, _==_}
-use Rattle.rules.specs.Tables.{State, stateOf}
-use Rattle.rules.specs.declared.Refusal.{Refusal}
-use Rattle.rules.specs.declared.Refusal.the-variants.{Shape, Unsound, Dead, SameClass, NoElement, NoShared, Short, Malformed}
-use Rattle.rules.specs.Refusals.{numberOf, Said, Outcome, saidRefused, saidAccepted}
+use Rattle.rules.specs.Tables.{stateOf}
+use Rattle.rules.specs.Refusals.{Said}
 use Rattle.rules.specs.Answers.{leaves}
 use Rattle.rules.specs.Calls.{Call, AtDoor, freshStep}
-use Rattle.host.specs.Host.{headOf, values, Left, left, shown, Answered, AtHost, AtFresh}
+use Rattle.numbers.specs.Numbers.{headOf, values, Answered}
+use Rattle.host.specs.Host.{left, shown, AtHost, AtFresh}
 use Rattle.host.specs.InPlace.{AtHead, leftAt}
-
--- a refused call leaves `out` as it was
-kept : (r : Refusal) (a b : List ℕ) → b ≡ (if numberOf r == 0 then a else b)
-kept Shape a b = refl
-kept Unsound a b = refl
-kept Dead a b = refl
-kept SameClass a b = refl
-kept NoElement a b = refl
-kept NoShared a b = refl
-kept Short a b = refl
-kept Malformed a b = refl
-
-pub refused : (numbers : Said → List ℕ) (said : Said) (r : Refusal) (out : List ℕ) (n : ℕ) → said ≡ saidRefused r → n ≡ numberOf r → Answered numbers said out n out
-refused numbers said r out n p q = record { number = rw p q; out = rw p (kept r (numbers (saidRefused r)) out) }
-
--- an accepted call writes it
-pub accepted : (numbers : Said → List ℕ) (said : Said) (values : List ℕ) (over : Bool) (out : List ℕ) → said ≡ saidAccepted values over → Answered numbers said out 0 (numbers (saidAccepted values over))
-accepted numbers said values over out p = record { number = rw p; out = rw p }
 
 module _ (c : Call) (numbers : Said → List ℕ) (head elems shared lent out : List ℕ) where
   pub hosted : (h next : Head) (said : Said) (r : ℕ) (packed elems′ shared′ lent′ out′ : List ℕ)

@@ -1,12 +1,13 @@
 // Frames in and out.
-use crate::answers;
-use crate::head::pack;
-use crate::head::unpack;
+use numbers::answers;
+use numbers::head::pack;
+use numbers::head::unpack;
 use rules::Key;
 ghost use mathlib.Core.Path.{_≡_};
 ghost use mathlib.Core.List.{[]};
 ghost use Rattle.rules.specs.Calls.{newRun, insert, union, remove, removeShared};
-ghost use Rattle.host.specs.Host.{keyOf, AtHost, left, values, valuesOver, removalNumbers};
+ghost use Rattle.numbers.specs.Numbers.{values, valuesOver, removalNumbers};
+ghost use Rattle.host.specs.Host.{keyOf, AtHost, left};
 
 // Rules 4: begins a run.
 #[no_mangle]

@@ -1,9 +1,10 @@
 // The head lent in place: a host lends its own struct, which lies as the nine numbers do (docs/LAYOUT.md).
-use crate::answers;
+use numbers::answers;
 use rules::Head;
 use rules::Key;
 ghost use Rattle.rules.specs.Calls.{insert, remove};
-ghost use Rattle.host.specs.Host.{keyOf, values, removalNumbers};
+ghost use Rattle.numbers.specs.Numbers.{values, removalNumbers};
+ghost use Rattle.host.specs.Host.{keyOf};
 ghost use Rattle.host.specs.InPlace.{AtHead, leftAt};
 
 // The next head, and the entry's result.

@@ -1,7 +1,5 @@
 // The entries that a host calls (include/doorsedge.h): each takes the lent head apart, calls the door, and stores what it hands back.
-mod answers;
 mod frames;
-mod head;
 mod in_place;
 mod reads;
 mod sets;

@@ -1,11 +1,12 @@
 // Reads: they change nothing but `out` and the lent places.
-use crate::answers;
-use crate::head::unpack;
+use numbers::answers;
+use numbers::head::unpack;
 use rules::Key;
 ghost use mathlib.Core.Path.{_≡_};
 ghost use mathlib.Core.List.{[]};
 ghost use Rattle.rules.specs.Calls.{lenSurject, inSameSurject, getElement, getShared, list};
-ghost use Rattle.host.specs.Host.{keyOf, AtHost, left, values};
+ghost use Rattle.numbers.specs.Numbers.{values};
+ghost use Rattle.host.specs.Host.{keyOf, AtHost, left};
 
 // Rules 1: how many frames the key's run has.
 #[no_mangle]

@@ -1,11 +1,12 @@
 // Sets: keys, rings and the head stay as they are.
-use crate::answers;
-use crate::head::unpack;
+use numbers::answers;
+use numbers::head::unpack;
 use rules::Key;
 ghost use mathlib.Core.Path.{_≡_};
 ghost use mathlib.Core.List.{[]};
 ghost use Rattle.rules.specs.Calls.{setElement, setShared, exchange};
-ghost use Rattle.host.specs.Host.{keyOf, AtHost, left, values, keysOf};
+ghost use Rattle.numbers.specs.Numbers.{values};
+ghost use Rattle.host.specs.Host.{keyOf, AtHost, left, keysOf};
 
 // Slot and generation of each key in turn.
 fn four_keys(keys: [u64; 8]) -> [Key; 4]

@@ -1,12 +1,13 @@
 // All at once: fresh, the check, drains, clear, compression.
-use crate::answers;
-use crate::head::pack;
-use crate::head::unpack;
+use numbers::answers;
+use numbers::head::pack;
+use numbers::head::unpack;
 use rules::Key;
 ghost use mathlib.Core.Path.{_≡_};
 ghost use mathlib.Core.List.{[]};
 ghost use Rattle.rules.specs.Calls.{check, drain, drainAll, clear, compress};
-ghost use Rattle.host.specs.Host.{keyOf, AtHost, left, values, valuesOver, isSet, AtFresh};
+ghost use Rattle.numbers.specs.Numbers.{values, valuesOver};
+ghost use Rattle.host.specs.Host.{keyOf, AtHost, left, isSet, AtFresh};
 
 // Rules 2: empty tables of these capacities; the head and the tables may hold anything.
 #[no_mangle]

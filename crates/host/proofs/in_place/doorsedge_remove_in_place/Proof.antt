@@ -49,7 +49,8 @@ use Rattle.host.specs.declared.in_place.HeadSaid.{HeadSaid}
 use Rattle.host.proofs.in_place.HeadSaid as N
 use Rattle.host.proofs.in_place.HeadSaid.Laws as N′
 use Rattle.rules.specs.Calls.{remove}
-use Rattle.host.specs.Host.{keyOf, removalNumbers}
+use Rattle.numbers.specs.Numbers.{removalNumbers}
+use Rattle.host.specs.Host.{keyOf}
 use Rattle.host.specs.InPlace.{AtHead, leftAt}
 use Rattle.host.proofs.in_place.remove_said as callee
 use Rattle.host.proofs.in_place.remove_said.Symbol as callee-def

@@ -5,7 +5,7 @@ use Rattle.host.proofs.in_place.insert_said.Tie as tie
 use Rattle.host.proofs.in_place.insert_said.Reads as reads
 use Rattle.host.proofs.in_place.insert_said.Lts as lts
 use Rattle.door_runs.proofs.insert.Reads as insert-reads
-use Rattle.host.proofs.answers.key.Reads as key-reads
+use Rattle.numbers.proofs.answers.key.Reads as key-reads
 
 insert-requires : tie.Need-insert-requires
 insert-requires c κs = search needs

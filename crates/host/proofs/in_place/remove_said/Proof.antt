@@ -5,7 +5,7 @@ use Rattle.host.proofs.in_place.remove_said.Tie as tie
 use Rattle.host.proofs.in_place.remove_said.Reads as reads
 use Rattle.host.proofs.in_place.remove_said.Lts as lts
 use Rattle.door_runs.proofs.remove_element.Reads as remove-element-reads
-use Rattle.host.proofs.answers.removed.Reads as removed-reads
+use Rattle.numbers.proofs.answers.removed.Reads as removed-reads
 
 remove-element-requires : tie.Need-remove-element-requires
 remove-element-requires c κs = search needs

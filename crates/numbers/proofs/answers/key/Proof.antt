@@ -1,9 +1,9 @@
 use Rattle.rules.specs.Answers.{saidInserted}
-use Rattle.host.proofs.Kit.{accepted, refused}
+use Rattle.numbers.proofs.Told.{accepted, refused}
 use mathlib.Core.Path.{ap}
 use borrow.Author.Needs.{needs}
-use Rattle.host.proofs.answers.key.Statement.{statement}
-use Rattle.host.proofs.answers.key.Tie as tie
+use Rattle.numbers.proofs.answers.key.Statement.{statement}
+use Rattle.numbers.proofs.answers.key.Tie as tie
 
 enum-known-answer : tie.Need-enum-known-answer
 enum-known-answer c = search needs

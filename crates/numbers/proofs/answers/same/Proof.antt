@@ -1,9 +1,9 @@
 use Rattle.rules.specs.Answers.{saidSame}
-use Rattle.host.proofs.Kit.{accepted, refused}
+use Rattle.numbers.proofs.Told.{accepted, refused}
 use mathlib.Core.Path.{ap}
 use borrow.Author.Needs.{needs}
-use Rattle.host.proofs.answers.same.Statement.{statement}
-use Rattle.host.proofs.answers.same.Tie as tie
+use Rattle.numbers.proofs.answers.same.Statement.{statement}
+use Rattle.numbers.proofs.answers.same.Tie as tie
 
 enum-told : tie.Need-enum-told
 enum-told c = search needs

@@ -1,7 +1,7 @@
-use Rattle.host.specs.Host.{headOf}
+use Rattle.numbers.specs.Numbers.{headOf}
 use mathlib.Core.Path.{refl}
-use Rattle.host.proofs.head.pack.Statement.{statement}
-use Rattle.host.proofs.head.pack.Tie as tie
+use Rattle.numbers.proofs.head.pack.Statement.{statement}
+use Rattle.numbers.proofs.head.pack.Tie as tie
 
 returns : tie.Need-returns
 unfolding headOf

@@ -1,10 +1,10 @@
 use Rattle.rules.specs.declared.Done.{Done}
 use Rattle.rules.specs.Answers.{saidOld}
-use Rattle.host.proofs.Kit.{accepted, refused}
+use Rattle.numbers.proofs.Told.{accepted, refused}
 use mathlib.Core.Path.{ap}
 use borrow.Author.Needs.{needs}
-use Rattle.host.proofs.answers.four.Statement.{statement}
-use Rattle.host.proofs.answers.four.Tie as tie
+use Rattle.numbers.proofs.answers.four.Statement.{statement}
+use Rattle.numbers.proofs.answers.four.Tie as tie
 
 enum-told : tie.Need-enum-told
 enum-told c = search needs

@@ -3,11 +3,11 @@ use Rattle.rules.specs.declared.Rest.{Rest}
 use mathlib.Core.Path.{_∙_}
 use Rattle.rules.specs.declared.Removed.{Removed}
 use Rattle.rules.specs.Answers.{saidRemoved}
-use Rattle.host.proofs.Kit.{accepted, refused}
+use Rattle.numbers.proofs.Told.{accepted, refused}
 use mathlib.Core.Path.{ap}
 use borrow.Author.Needs.{needs}
-use Rattle.host.proofs.answers.removed.Statement.{statement}
-use Rattle.host.proofs.answers.removed.Tie as tie
+use Rattle.numbers.proofs.answers.removed.Statement.{statement}
+use Rattle.numbers.proofs.answers.removed.Tie as tie
 
 enum-known-answer : tie.Need-enum-known-answer
 enum-known-answer c = search needs

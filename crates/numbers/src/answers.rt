@@ -12,10 +12,10 @@ ghost use mathlib.Core.Bool.{Bool};
 ghost use mathlib.Core.List.{[]};
 ghost use Rattle.rules.specs.Refusals.{numberOf};
 ghost use Rattle.rules.specs.Answers.{saidDone, saidNumber, saidSame, saidInserted, saidJoined, saidRemoved, saidOld};
-ghost use Rattle.host.specs.Host.{Answered, flag, values, valuesOver, removalNumbers};
+ghost use Rattle.numbers.specs.Numbers.{Answered, flag, values, valuesOver, removalNumbers};
 
 // Refusals 1 to 8.
-fn number_of(r: Refusal) -> u64
+pub fn number_of(r: Refusal) -> u64
     ensures { λ n. ⌜ n ≡ numberOf r ⌝ }
 {
     match r {

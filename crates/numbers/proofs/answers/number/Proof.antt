@@ -1,10 +1,10 @@
 use Rattle.rules.specs.declared.Number.{Number}
 use Rattle.rules.specs.Answers.{saidNumber}
-use Rattle.host.proofs.Kit.{accepted, refused}
+use Rattle.numbers.proofs.Told.{accepted, refused}
 use mathlib.Core.Path.{ap}
 use borrow.Author.Needs.{needs}
-use Rattle.host.proofs.answers.number.Statement.{statement}
-use Rattle.host.proofs.answers.number.Tie as tie
+use Rattle.numbers.proofs.answers.number.Statement.{statement}
+use Rattle.numbers.proofs.answers.number.Tie as tie
 
 enum-known-answer : tie.Need-enum-known-answer
 enum-known-answer c = search needs

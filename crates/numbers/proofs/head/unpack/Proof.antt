@@ -1,8 +1,8 @@
-use Rattle.host.specs.Host.{headOf}
+use Rattle.numbers.specs.Numbers.{headOf}
 use mathlib.Core.Path.{refl}
 use borrow.Author.Needs.{needs}
-use Rattle.host.proofs.head.unpack.Statement.{statement}
-use Rattle.host.proofs.head.unpack.Tie as tie
+use Rattle.numbers.proofs.head.unpack.Statement.{statement}
+use Rattle.numbers.proofs.head.unpack.Tie as tie
 
 array-read-t5 : tie.Need-array-read-t5
 array-read-t5 c = search needs

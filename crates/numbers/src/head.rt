@@ -2,7 +2,7 @@
 use rules::Head;
 use rules::Pool;
 ghost use mathlib.Core.Path.{_≡_};
-ghost use Rattle.host.specs.Host.{headOf};
+ghost use Rattle.numbers.specs.Numbers.{headOf};
 
 pub fn unpack(h: [u64; 9]) -> Head
     ensures { λ r. ⌜ r ≡ headOf h ⌝ }

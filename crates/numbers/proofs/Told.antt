@@ -1,0 +1,28 @@
+-- An answer that is refused, and one that is accepted, as numbers.
+use Prim.Native.Nat.{ℕ}
+use mathlib.Core.Path.{_≡_, refl}
+use mathlib.Core.Bool.{Bool}
+use mathlib.Core.List.{List}
+use Rattle.rules.specs.Notation.{if_then_else_, _==_}
+use Rattle.rules.specs.declared.Refusal.{Refusal}
+use Rattle.rules.specs.declared.Refusal.the-variants.{Shape, Unsound, Dead, SameClass, NoElement, NoShared, Short, Malformed}
+use Rattle.rules.specs.Refusals.{numberOf, Said, saidRefused, saidAccepted}
+use Rattle.numbers.specs.Numbers.{Answered}
+
+-- a refused call leaves `out` as it was
+kept : (r : Refusal) (a b : List ℕ) → b ≡ (if numberOf r == 0 then a else b)
+kept Shape a b = refl
+kept Unsound a b = refl
+kept Dead a b = refl
+kept SameClass a b = refl
+kept NoElement a b = refl
+kept NoShared a b = refl
+kept Short a b = refl
+kept Malformed a b = refl
+
+pub refused : (numbers : Said → List ℕ) (said : Said) (r : Refusal) (out : List ℕ) (n : ℕ) → said ≡ saidRefused r → n ≡ numberOf r → Answered numbers said out n out
+refused numbers said r out n p q = record { number = rw p q; out = rw p (kept r (numbers (saidRefused r)) out) }
+
+-- an accepted call writes it
+pub accepted : (numbers : Said → List ℕ) (said : Said) (values : List ℕ) (over : Bool) (out : List ℕ) → said ≡ saidAccepted values over → Answered numbers said out 0 (numbers (saidAccepted values over))
+accepted numbers said values over out p = record { number = rw p; out = rw p }
