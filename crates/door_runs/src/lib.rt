@@ -30,7 +30,7 @@ pub fn insert_surject(
             head,
             answer: Inserted::Refused(n),
         },
-        Done::Done => runs::insert_surject(head, elems, shared, payload, value),
+        Done::Done => inserts::insert_surject(head, elems, shared, payload, value),
     }
 }
 
@@ -49,7 +49,7 @@ pub fn insert(
             head,
             answer: Inserted::Refused(n),
         },
-        Done::Done => runs::insert(head, elems, shared, at, payload),
+        Done::Done => inserts::insert(head, elems, shared, at, payload),
     }
 }
 
@@ -62,7 +62,7 @@ pub fn union(head: Head, elems: &mut [u64], shared: &mut [u64], j: Key, k: Key) 
             head,
             answer: Joined::Refused(n),
         },
-        Done::Done => runs::union(head, elems, shared, j, k),
+        Done::Done => unions::union(head, elems, shared, j, k),
     }
 }
 
@@ -76,6 +76,6 @@ pub fn remove_element(head: Head, elems: &mut [u64], shared: &mut [u64], key: Ke
             answer: Removed::Refused(n),
             over: false,
         },
-        Done::Done => runs::remove_element(head, elems, shared, key),
+        Done::Done => removes::remove_element(head, elems, shared, key),
     }
 }

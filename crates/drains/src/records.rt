@@ -1,4 +1,5 @@
 // Rules 10: drain a run.
+use removes::remove_at;
 use rings::lists::size_at;
 use rules::FRAME;
 use rules::Found;
@@ -10,7 +11,6 @@ use rules::NEXT;
 use rules::Number;
 use rules::Refusal;
 use rules::Rest;
-use runs::removes::remove_at;
 ghost use mathlib.Core.Path.{_≡_};
 ghost use mathlib.Core.List.{[], _∷_, _++_};
 ghost use Rattle.rules.specs.Notation.{if_then_else_};

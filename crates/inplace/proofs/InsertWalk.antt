@@ -51,7 +51,7 @@ use Rattle.rules.proofs.Key as K
 use Rattle.rules.proofs.Key.Laws as K′
 use Rattle.rules.proofs.Inserted as E
 use Rattle.rules.proofs.Inserted.Laws as E′
-use Rattle.runs.proofs.insert as callee
+use Rattle.inserts.proofs.insert as callee
 use Rattle.inplace.proofs.insert_in_place as self
 use Rattle.inplace.proofs.Pieces.{holds, lent, table, pointer, behind, whole-of, part-of, lends-on}
 

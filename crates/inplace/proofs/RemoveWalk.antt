@@ -48,7 +48,7 @@ use Rattle.rules.proofs.Key as K
 use Rattle.rules.proofs.Key.Laws as K′
 use Rattle.inplace.proofs.TakenOut as E
 use Rattle.inplace.proofs.TakenOut.Laws as E′
-use Rattle.runs.proofs.remove_element as callee
+use Rattle.removes.proofs.remove_element as callee
 use Rattle.inplace.proofs.remove_in_place as self
 use Rattle.inplace.proofs.Pieces.{holds, lent, table, pointer, behind, whole-of, part-of, lends-on}
 

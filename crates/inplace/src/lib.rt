@@ -28,7 +28,7 @@ pub fn insert_in_place(
     requires { ⌜ Ready (stateOf (now head) (now elems) (now shared)) ⌝ }
     ensures { λ r. ⌜ leaves (now (head .exit)) (now (elems .exit)) (now (shared .exit)) [] (saidInserted r) ≡ step (stateOf (now (head .entry)) (now (elems .entry)) (now (shared .entry))) [] (insert at payload) ⌝ }
 {
-    let r = runs::insert(*head, elems, shared, at, payload);
+    let r = inserts::insert(*head, elems, shared, at, payload);
     *head = r.head;
     r.answer
 }
@@ -38,7 +38,7 @@ pub fn remove_in_place(head: &mut Head, elems: &mut [u64], shared: &mut [u64], k
     requires { ⌜ Ready (stateOf (now head) (now elems) (now shared)) ⌝ }
     ensures { λ r. ⌜ leaves (now (head .exit)) (now (elems .exit)) (now (shared .exit)) [] (saidRemoved (r .answer) (r .over)) ≡ step (stateOf (now (head .entry)) (now (elems .entry)) (now (shared .entry))) [] (remove key) ⌝ }
 {
-    let r = runs::remove_element(*head, elems, shared, key);
+    let r = removes::remove_element(*head, elems, shared, key);
     *head = r.head;
     TakenOut {
         answer: r.answer,

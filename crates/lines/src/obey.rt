@@ -35,15 +35,15 @@ pub fn obey_line(
 {
     match line {
         Line::NewRun { payload, value } => {
-            let r = runs::insert_surject(head, elems, shared, payload, value);
+            let r = inserts::insert_surject(head, elems, shared, payload, value);
             tell_inserted(out, at, r)
         }
         Line::Insert { target, payload } => {
-            let r = runs::insert(head, elems, shared, target, payload);
+            let r = inserts::insert(head, elems, shared, target, payload);
             tell_inserted(out, at, r)
         }
         Line::Union { first, second } => {
-            let r = runs::union(head, elems, shared, first, second);
+            let r = unions::union(head, elems, shared, first, second);
             tell_joined(out, at, r)
         }
         Line::List(key) => {
@@ -52,7 +52,7 @@ pub fn obey_line(
             Obeyed { head, next }
         }
         Line::Remove(key) => {
-            let r = runs::remove_element(head, elems, shared, key);
+            let r = removes::remove_element(head, elems, shared, key);
             tell_removed(out, at, r)
         }
         Line::Malformed => {

@@ -1,0 +1,47 @@
+use Rattle.inserts.proofs.Room.{given}
+use Rattle.rules.specs.Runs.{begun}
+use borrow.Author.Needs.{needs}
+use Rattle.inserts.proofs.begin.Statement.{statement}
+use Rattle.inserts.proofs.begin.Tie as tie
+
+slot-requires : tie.Need-slot-requires
+slot-requires c κs = search needs
+
+slot-requires-2 : tie.Need-slot-requires-2
+slot-requires-2 c κs = search needs
+
+take-requires : tie.Need-take-requires
+take-requires c κs = search needs
+
+take-requires-2 : tie.Need-take-requires-2
+take-requires-2 c κs = search needs
+
+write-frame-requires : tie.Need-write-frame-requires
+write-frame-requires c κs = let p = c .before .before .before .before .before .before .before .before .before .before .before .pre in let s = given _ (p .safe .elems .pool) (p .elems) in rw (c .before .before .before .before .before .before .slot .ensures) (search needs)
+
+write-header-requires : tie.Need-write-header-requires
+write-header-requires c κs = let p = c .before .before .before .before .before .before .before .before .before .before .before .before .before .before .before .pre in let s = given _ (p .safe .shared .pool) (p .shared) in rw (c .before .before .before .before .before .before .before .before .before .slot2 .ensures) (search needs)
+
+same-length : tie.Need-same-length
+same-length c = search needs
+
+same-length-2 : tie.Need-same-length-2
+same-length-2 c = search needs
+
+returns : tie.Need-returns
+unfolding begun
+returns c = rw ((c .before .before .write-header .ensures), (c .before .before .before .before .before .before .write-frame .ensures), (c .before .before .before .before .before .before .before .before .take2 .ensures 0), (c .before .before .before .before .before .before .before .before .before .before .take .ensures 0), (c .before .before .before .before .before .before .before .before .before .before .before .before .slot2 .ensures), (c .before .before .before .before .before .before .before .before .before .before .before .before .before .slot .ensures))
+
+pub begin-spec : {M : Type 1} → statement M
+begin-spec =
+    tie.close
+    (tie.spec
+    slot-requires
+    slot-requires-2
+    take-requires
+    take-requires-2
+    write-frame-requires
+    write-header-requires
+    same-length
+    same-length-2
+    returns)

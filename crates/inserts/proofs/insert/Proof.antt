@@ -1,0 +1,67 @@
+use Rattle.slots.proofs.Live.{on-live}
+use Rattle.rules.proofs.laws.Safe.{safe}
+use Rattle.rules.specs.Runs.{insert}
+use mathlib.Core.Path.{_∙_}
+use borrow.Author.Needs.{needs}
+use Rattle.inserts.proofs.insert.Statement.{statement}
+use Rattle.inserts.proofs.insert.Tie as tie
+
+find-requires : tie.Need-find-requires
+find-requires c κs = let s = safe _ (c .before .before .before .pre) in search needs
+
+enum-known-x : tie.Need-enum-known-x
+enum-known-x c = search needs
+
+enum-told : tie.Need-enum-told
+enum-told c = search needs
+
+same-length : tie.Need-same-length
+same-length c = search needs
+
+returns : tie.Need-returns
+unfolding insert
+returns c = let s = c .before .before .before .before .before .before .args .shared .now in rw ((c .before .before .find .ensures s .same) ∙ (c .enum-told .given .1))
+
+is-full-requires : tie.Need-is-full-requires
+is-full-requires c κs = search needs
+
+same-length-2 : tie.Need-same-length-2
+same-length-2 c = search needs
+
+returns-2 : tie.Need-returns-2
+unfolding insert
+returns-2 c = let s = c .before .before .before .before .before .before .before .before .before .before .args .shared .now in rw ((c .before .before .before .before .before .before .find .ensures s .same) ∙ (c .before .before .before .before .x .given .1), (c .before .is-full .ensures) ∙ (c .if1 .taken))
+
+slot-requires : tie.Need-slot-requires
+slot-requires c κs = let s = safe _ (c .before .before .before .before .before .before .before .before .before .before .pre) in search needs
+
+insert-at-requires : tie.Need-insert-at-requires
+insert-at-requires c κs = (on-live _ _ _ _ (c .before .before .before .before .before .before .before .before .before .before .before .before .before .pre) (c .before .before .before .before .before .before .before .before .before .find .ensures _) (c .before .before .before .before .before .before .before .x .given .1), c .before .before .before .before .is-full .ensures ∙ c .before .before .before .if1 .left)
+
+same-length-3 : tie.Need-same-length-3
+same-length-3 c = search needs
+
+same-length-4 : tie.Need-same-length-4
+same-length-4 c = search needs
+
+returns-3 : tie.Need-returns-3
+unfolding insert
+returns-3 c = let s = c .before .before .before .before .before .before .before .before .before .before .before .before .before .before .before .before .before .before .args .shared .now in rw ((c .before .before .before .before .before .before .before .before .before .before .before .before .before .before .find .ensures s .same) ∙ (c .before .before .before .before .before .before .before .before .before .before .before .before .x .given .1), (c .before .before .before .before .before .before .before .before .before .is-full .ensures) ∙ (c .before .before .before .before .before .before .before .before .if1 .left), (c .before .before .before .before .insert-at .ensures), (c .before .before .before .before .before .before .before .slot .ensures))
+
+pub insert-spec : {M : Type 1} → statement M
+insert-spec =
+    tie.close
+    (tie.spec
+    find-requires
+    enum-known-x
+    enum-told
+    same-length
+    returns
+    is-full-requires
+    same-length-2
+    returns-2
+    slot-requires
+    insert-at-requires
+    same-length-3
+    same-length-4
+    returns-3)

@@ -1,0 +1,48 @@
+use Rattle.inserts.proofs.Room.{given}
+use Rattle.slots.specs.Answered.{spliced}
+use Rattle.rules.specs.Runs.{inserted}
+use borrow.Author.Needs.{needs}
+use Rattle.inserts.proofs.insert_at.Statement.{statement}
+use Rattle.inserts.proofs.insert_at.Tie as tie
+
+slot-requires : tie.Need-slot-requires
+slot-requires c κs = search needs
+
+take-requires : tie.Need-take-requires
+take-requires c κs = search needs
+
+splice-requires : tie.Need-splice-requires
+splice-requires c κs = let p = c .before .before .before .before .before .before .before .pre .0 in let s = given _ (p .safe .elems .pool) (c .before .before .before .before .before .before .before .pre .1) in rw (c .before .before .before .slot .ensures) (search needs)
+
+get-requires : tie.Need-get-requires
+get-requires c κs = search needs
+
+add-put : tie.Need-add-put
+add-put c = let p = c .before .before .before .before .before .before .before .before .before .before .before .before .before .pre .0 in rw ((c .before .get .ensures), (c .before .before .before .before .before .splice .ensures .0)) (search needs)
+
+put-requires : tie.Need-put-requires
+put-requires c κs = search needs
+
+same-length : tie.Need-same-length
+same-length c = search needs
+
+same-length-2 : tie.Need-same-length-2
+same-length-2 c = search needs
+
+returns : tie.Need-returns
+unfolding inserted spliced
+returns c = rw ((c .before .before .before .put .ensures), (c .before .before .before .before .before .get .ensures), (c .before .before .before .before .before .before .before .before .before .splice .ensures .1), (c .before .before .before .before .before .before .before .before .before .splice .ensures .0), (c .before .before .before .before .before .before .before .before .before .before .before .take .ensures 0), (c .before .before .before .before .before .before .before .before .before .before .before .before .before .slot .ensures))
+
+pub insert-at-spec : {M : Type 1} → statement M
+insert-at-spec =
+    tie.close
+    (tie.spec
+    slot-requires
+    take-requires
+    splice-requires
+    get-requires
+    add-put
+    put-requires
+    same-length
+    same-length-2
+    returns)

@@ -1,0 +1,2 @@
+-- What new run and insert ask of their steps.
+pub mod Asked

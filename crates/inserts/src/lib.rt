@@ -1,0 +1,130 @@
+// New run and insert (Rules 4 and 5) at the inner door: each equal to its rule, on a ready state.
+use rules::COUNT;
+use rules::FRAME;
+use rules::Found;
+use rules::HEADER;
+use rules::Head;
+use rules::HeadInserted;
+use rules::Inserted;
+use rules::Key;
+use rules::NEXT;
+use rules::NEXT_FREE;
+use rules::Refusal;
+ghost use mathlib.Core.Path.{_≡_};
+ghost use mathlib.Core.List.{[]};
+ghost use Rattle.rules.specs.Tables.{stateOf};
+ghost use Rattle.rules.specs.Runs.{begun, inserted};
+ghost use Rattle.rules.specs.Calls.{Ready, step, newRun, insert};
+ghost use Rattle.rules.specs.Answers.{afterInserted};
+ghost use Rattle.slots.specs.Asked.{OnLive};
+ghost use Rattle.inserts.specs.Asked.{HasRoom, RoomFor};
+
+// A frame and a header are taken: a ring of one, count 1.
+fn begin(head: Head, elems: &mut [u64], shared: &mut [u64], payload: u64, value: u64) -> Head
+    requires { ⌜ RoomFor (stateOf head (now elems) (now shared)) ⌝ }
+    ensures { λ r. ⌜ stateOf r (now (elems .exit)) (now (shared .exit)) ≡ begun (stateOf head (now (elems .entry)) (now (shared .entry))) payload value ⌝ }
+{
+    let frames = head.elems;
+    let headers = head.shared;
+    let x = frames.slot();
+    let class = headers.slot();
+    let elem_pool = slots::take(frames, elems, FRAME, NEXT);
+    let shared_pool = slots::take(headers, shared, HEADER, NEXT_FREE);
+    slots::write_frame(elems, x, head.generation, payload, class, x, x);
+    slots::write_header(shared, class, 1, value, 0);
+    Head {
+        elems: elem_pool,
+        shared: shared_pool,
+        generation: head.generation,
+    }
+}
+
+// Rules 4, new run.
+pub fn insert_surject(
+    head: Head,
+    elems: &mut [u64],
+    shared: &mut [u64],
+    payload: u64,
+    value: u64,
+) -> HeadInserted
+    requires { ⌜ Ready (stateOf head (now elems) (now shared)) ⌝ }
+    ensures { λ r. ⌜ afterInserted r (now (elems .exit)) (now (shared .exit)) [] ≡ step (stateOf head (now (elems .entry)) (now (shared .entry))) [] (newRun payload value) ⌝ }
+{
+    let frames = head.elems;
+    let headers = head.shared;
+    if headers.is_full() {
+        return HeadInserted {
+            head,
+            answer: Inserted::Refused(Refusal::NoShared),
+        };
+    }
+    if frames.is_full() {
+        return HeadInserted {
+            head,
+            answer: Inserted::Refused(Refusal::NoElement),
+        };
+    }
+    let slot = frames.slot();
+    let next = begin(head, elems, shared, payload, value);
+    HeadInserted {
+        head: next,
+        answer: Inserted::At(Key {
+            slot,
+            generation: head.generation,
+        }),
+    }
+}
+
+// A frame is taken, and stands immediately after the one in `x`.
+fn insert_at(head: Head, elems: &mut [u64], shared: &mut [u64], x: u64, payload: u64) -> Head
+    requires { ⌜ OnLive (stateOf head (now elems) (now shared)) x × HasRoom (head .elems) ⌝ }
+    ensures { λ r. ⌜ stateOf r (now (elems .exit)) (now (shared .exit)) ≡ inserted (stateOf head (now (elems .entry)) (now (shared .entry))) x payload ⌝ }
+{
+    let frames = head.elems;
+    let y = frames.slot();
+    let pool = slots::take(frames, elems, FRAME, NEXT);
+    let class = slots::splice(elems, x, y, head.generation, payload);
+    let count = slots::get(shared, HEADER, COUNT, class);
+    slots::put(shared, HEADER, class, COUNT, count + 1);
+    let headers = head.shared;
+    Head {
+        elems: pool,
+        shared: headers,
+        generation: head.generation,
+    }
+}
+
+// Rules 5, insert.
+pub fn insert(
+    head: Head,
+    elems: &mut [u64],
+    shared: &mut [u64],
+    at: Key,
+    payload: u64,
+) -> HeadInserted
+    requires { ⌜ Ready (stateOf head (now elems) (now shared)) ⌝ }
+    ensures { λ r. ⌜ afterInserted r (now (elems .exit)) (now (shared .exit)) [] ≡ step (stateOf head (now (elems .entry)) (now (shared .entry))) [] (insert at payload) ⌝ }
+{
+    let Found::Live(x) = slots::find(head, elems, at) else {
+        return HeadInserted {
+            head,
+            answer: Inserted::Refused(Refusal::Dead),
+        };
+    };
+    let frames = head.elems;
+    if frames.is_full() {
+        return HeadInserted {
+            head,
+            answer: Inserted::Refused(Refusal::NoElement),
+        };
+    }
+    let slot = frames.slot();
+    let next = insert_at(head, elems, shared, x, payload);
+    HeadInserted {
+        head: next,
+        answer: Inserted::At(Key {
+            slot,
+            generation: head.generation,
+        }),
+    }
+}

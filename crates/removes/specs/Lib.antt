@@ -1,0 +1,2 @@
+-- What removal's steps ask and answer.
+pub mod Removal

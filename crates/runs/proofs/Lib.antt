@@ -1,3 +1,0 @@
-pub mod Room
-pub mod Joining
-pub mod Leaving
