@@ -11,12 +11,13 @@ use lib.Seq.{sets-eq, take-all, take-at, take-nil, drop-length, length-take-le, 
 use Rattle.rules.specs.Notation.{if_then_else_, _==_}
 use Rattle.rules.specs.Tables.{State}
 use Rattle.rules.specs.Script.{lineMost, newline, prepend, pieces, Reply, lineReply, withoutEmptyLast, replies, output}
+use Rattle.words.specs.Words.{onto}
+use Rattle.words.proofs.Pieces.{onto-nothing, pieces-some}
+use Rattle.words.proofs.Letters.{line-long}
+use Rattle.told.specs.Put.{Put}
 use Rattle.lines.specs.declared.stream.Gathered.{Gathered}
-use Rattle.lines.specs.Put.{Put}
 use Rattle.lines.specs.Obeys.{withNewline, ObeysLine}
-use Rattle.lines.specs.Stream.{Holds, Gathers, reached, freshState, onto, Follows, Prints}
-use Rattle.lines.proofs.Pieces.{onto-nothing, pieces-some}
-use Rattle.lines.proofs.Letters.{line-long}
+use Rattle.lines.specs.Stream.{Holds, Gathers, reached, freshState, Follows, Prints}
 use Rattle.lines.proofs.Gathering.{all-held}
 
 -- ---- pieces of two texts: the last of the one and the first of the other are one

@@ -9,9 +9,9 @@ use native.Mathlib.Omega.{arith}
 use lib.ListN.{length, getD, take, drop, set, length-set, length-append}
 use lib.Seq.{slice, slice-empty, take-all, take-append-le, take-suc-set, length-take-le}
 use Rattle.rules.specs.Script.{newline}
+use Rattle.words.proofs.Pieces.{slice-suc, Within, within-start, within-next, within-separator, within-last}
 use Rattle.lines.specs.declared.stream.Gathered.{Gathered}
 use Rattle.lines.specs.Stream.{Holds, Keeps, Gathers}
-use Rattle.lines.proofs.Pieces.{slice-suc, Within, within-start, within-next, within-separator, within-last}
 
 -- ---- a byte more
 

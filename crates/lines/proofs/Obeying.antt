@@ -21,12 +21,13 @@ use Rattle.rules.specs.Calls.{Call, list, ruling, step, Ready}
 use Rattle.rules.specs.Answers.{leaves}
 use Rattle.rules.specs.Script.{capacity, ringText}
 use Rattle.rules.proofs.laws.Kept.{kept}
-use Rattle.lines.specs.declared.answers.Obeyed.{Obeyed}
-use Rattle.lines.specs.Put.{Put}
-use Rattle.lines.specs.Texts.{printed, textOf, Places}
-use Rattle.lines.specs.Lines.{answered}
-use Rattle.lines.specs.Obeys.{replyMost, Told, Obeys}
-use Rattle.lines.proofs.Puts.{put-same}
+use Rattle.told.specs.declared.answers.Obeyed.{Obeyed}
+use Rattle.told.specs.Put.{Put}
+use Rattle.told.specs.Texts.{printed, textOf, Places}
+use Rattle.told.specs.Told.{Told}
+use Rattle.told.proofs.Puts.{put-same}
+use Rattle.words.specs.Lines.{answered}
+use Rattle.lines.specs.Obeys.{replyMost, Obeys}
 
 -- what Script lends
 abbrev lends : List ℕ

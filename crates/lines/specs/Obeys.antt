@@ -2,25 +2,15 @@
 use Prim.Native.Nat.{ℕ, _+_, _*_, _≤_, _<_}
 use mathlib.Core.Path.{_≡_}
 use mathlib.Core.List.{List, [], _∷_, _++_}
-use Rattle.rules.specs.declared.Head.{Head}
 use Rattle.rules.specs.Tables.{State}
-use Rattle.rules.specs.Refusals.{Said, Outcome}
 use Rattle.rules.specs.Drains.{keyWidth}
 use Rattle.rules.specs.Calls.{Ready}
 use Rattle.rules.specs.Script.{capacity, newline, Reply}
-use Rattle.lines.specs.declared.answers.Obeyed.{Obeyed}
-use Rattle.lines.specs.Put.{Put}
-use Rattle.lines.specs.Texts.{textOf}
+use Rattle.told.specs.Put.{Put}
 
 -- the most bytes of a reply with its newline: `ring`, and two numbers for each frame, each of 20 digits at most
 abbrev pub replyMost : ℕ
 replyMost = 29 + capacity * keyWidth * 21
-
--- what was said is printed, in `most` bytes at the most, and the head is handed on
-pub record Told (print : Outcome → List ℕ) (said : Said) (kept : Head) (before : List ℕ) (at most : ℕ) (after : List ℕ) (o : Obeyed) : Type 0 where
-  pub head : o .head ≡ kept
-  pub put : Put before at (textOf print said []) after (o .next)
-  pub within : o .next ≤ at + most
 
 -- the state is the reply's and is ready for the next line; the reply is printed, and there is room for a newline
 pub record Obeys (reply : Reply) (st : State) (before : List ℕ) (at : ℕ) (after : List ℕ) (next : ℕ) : Type 0 where

@@ -8,6 +8,7 @@ use Rattle.rules.specs.Notation.{if_then_else_}
 use Rattle.rules.specs.Tables.{State}
 use Rattle.rules.specs.Slots.{empty}
 use Rattle.rules.specs.Script.{capacity, newline, pieces, lineReply, replies, output}
+use Rattle.words.specs.Words.{onto}
 use Rattle.lines.specs.declared.stream.Gathered.{Gathered}
 
 -- of a line that has `bytes`, as many as there is room for are held
@@ -38,11 +39,6 @@ reached st (l ∷ ls) = reached (lineReply st l .state) ls
 
 abbrev pub freshState : State
 freshState = empty capacity capacity 1
-
--- bytes put in front of the first of some pieces
-abbrev pub onto : List ℕ → List (List ℕ) → List (List ℕ)
-onto xs [] = xs ∷ []
-onto xs (p ∷ ps) = (xs ++ p) ∷ ps
 
 -- Of an input, `left` is still to be read. Its lines so far were obeyed, from fresh tables on; what they print has gone out, or stands at the start of `out`; and the line begun is held.
 pub record Follows (input left : List ℕ) (st : State) (out : List ℕ) (fill : ℕ) (line : List ℕ) (held : ℕ) : Type 0 where

@@ -1,14 +1,10 @@
-// The script program's lines (Script): a line of bytes is read, obeyed and answered.
-mod answers;
+// The script program's lines (Script): found in the input block by block, and obeyed.
 mod obey;
-mod read;
 mod stream;
-mod text;
-mod words;
 
-pub use answers::Obeyed;
 pub use obey::obey_bytes;
-pub use read::Line;
-pub use read::read_line;
 pub use stream::Gathered;
 pub use stream::gather;
+pub use told::Obeyed;
+pub use words::Line;
+pub use words::read_line;

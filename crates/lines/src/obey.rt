@@ -6,19 +6,19 @@ ghost use Rattle.rules.specs.Tables.{stateOf};
 ghost use Rattle.rules.specs.Drains.{keyWidth};
 ghost use Rattle.rules.specs.Calls.{Ready};
 ghost use Rattle.rules.specs.Script.{capacity, lineReply};
-ghost use Rattle.lines.specs.Lines.{replyOf};
+ghost use Rattle.words.specs.Lines.{replyOf};
 ghost use Rattle.lines.specs.Obeys.{replyMost, Obeys, ObeysLine};
-use crate::answers::Obeyed;
-use crate::answers::put_refusal;
-use crate::answers::put_ring;
-use crate::answers::tell_inserted;
-use crate::answers::tell_joined;
-use crate::answers::tell_removed;
-use crate::read::Line;
-use crate::read::read_line;
-use crate::text::put_text;
 use rules::Head;
 use rules::Refusal;
+use told::Obeyed;
+use told::put_refusal;
+use told::put_ring;
+use told::put_text;
+use told::tell_inserted;
+use told::tell_joined;
+use told::tell_removed;
+use words::Line;
+use words::read_line;
 
 // What is printed goes into `out` from `at` on; `keys` is lent to list a ring.
 pub fn obey_line(

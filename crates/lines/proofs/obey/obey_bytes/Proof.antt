@@ -1,5 +1,5 @@
 -- `lines::obey::obey_bytes` meets its contract.
-use Rattle.lines.proofs.Puts.{put-then}
+use Rattle.told.proofs.Puts.{put-then}
 use Rattle.rules.specs.Tables.{stateOf}
 use native.Mathlib.Omega.{arith}
 use borrow.Author.Needs.{needs}

@@ -1,0 +1,47 @@
+-- `lines::read::read_insert` meets its contract.
+use mathlib.Core.List.{[], _∷_}
+use Rattle.rules.specs.Script.{u64}
+use borrow.Author.Needs.{needs}
+use Rattle.words.proofs.read.read_insert.Statement.{statement}
+use Rattle.words.proofs.read.read_insert.Tie as tie
+
+take-key-requires : tie.Need-take-key-requires
+take-key-requires c κs = search needs
+
+enum-known-target : tie.Need-enum-known-target
+enum-known-target c = search needs
+
+enum-told : tie.Need-enum-told
+enum-told c = search needs
+
+returns : tie.Need-returns
+returns c = λ st. rw (c .before .before .take-key .ensures (u64 ∷ []), c .enum-told .given .1)
+
+last-number-requires : tie.Need-last-number-requires
+last-number-requires c κs = search needs
+
+enum-known-payload : tie.Need-enum-known-payload
+enum-known-payload c = search needs
+
+enum-told-2 : tie.Need-enum-told-2
+enum-told-2 c = search needs
+
+returns-2 : tie.Need-returns-2
+returns-2 c = λ st. rw (c .before .before .before .before .before .before .take-key .ensures (u64 ∷ []), c .before .before .before .before .target .given .1, c .before .before .last-number .ensures, c .enum-told2 .given .1)
+
+returns-3 : tie.Need-returns-3
+returns-3 c = λ st. rw (c .before .before .before .before .before .before .before .take-key .ensures (u64 ∷ []), c .before .before .before .before .before .target .given .1, c .before .before .before .last-number .ensures, c .before .payload .given .1)
+
+pub read-insert-spec : {M : Type 1} → statement M
+read-insert-spec =
+    tie.close
+    (tie.spec
+    take-key-requires
+    enum-known-target
+    enum-told
+    returns
+    last-number-requires
+    enum-known-payload
+    enum-told-2
+    returns-2
+    returns-3)
