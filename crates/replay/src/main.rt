@@ -6,42 +6,8 @@ mod frames;
 mod names;
 mod whole;
 
-use rules::Head;
-use rules::Pool;
-
-fn unpack(h: [u64; 9]) -> Head {
-    Head {
-        elems: Pool {
-            capacity: h[0],
-            extent: h[1],
-            root: h[2],
-            live: h[3],
-        },
-        shared: Pool {
-            capacity: h[4],
-            extent: h[5],
-            root: h[6],
-            live: h[7],
-        },
-        generation: h[8],
-    }
-}
-
-fn pack(h: Head) -> [u64; 9] {
-    let e = h.elems;
-    let s = h.shared;
-    [
-        e.capacity,
-        e.extent,
-        e.root,
-        e.live,
-        s.capacity,
-        s.extent,
-        s.root,
-        s.live,
-        h.generation,
-    ]
-}
+use numbers::head::pack;
+use numbers::head::unpack;
 
 // Replays the next record, and answers whether to go on.
 fn replay_one(

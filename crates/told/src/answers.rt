@@ -12,6 +12,7 @@ ghost use Rattle.told.specs.Texts.{spaced, textOf, restText, Places};
 ghost use Rattle.told.specs.Told.{Told};
 use crate::text::put_decimal;
 use crate::text::put_text;
+use numbers::answers::number_of;
 use rules::Head;
 use rules::HeadInserted;
 use rules::HeadJoined;
@@ -23,22 +24,6 @@ use rules::Number;
 use rules::Refusal;
 use rules::Removed;
 use rules::Rest;
-
-// Numbers given on refusal.
-fn number_of(refusal: Refusal) -> u64
-    ensures { λ r. ⌜ r ≡ numberOf refusal ⌝ }
-{
-    match refusal {
-        Refusal::Shape => 1,
-        Refusal::Unsound => 2,
-        Refusal::Dead => 3,
-        Refusal::SameClass => 4,
-        Refusal::NoElement => 5,
-        Refusal::NoShared => 6,
-        Refusal::Short => 7,
-        Refusal::Malformed => 8,
-    }
-}
 
 pub fn put_refusal(out: &mut [u8], at: usize, refusal: Refusal) -> usize
     requires { ⌜ at + 28 ≤ length (now out) ⌝ }
