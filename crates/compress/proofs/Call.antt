@@ -17,8 +17,8 @@ use Rattle.rules.specs.Compress.{packed, renumbered, canonicalFrames, canonical
 use Rattle.rules.specs.Compress as rule
 use Rattle.rules.proofs.laws.Tests.{le-is, is-true, is-false}
 use Rattle.rules.proofs.laws.Compress.{generationAfter}
-use Rattle.compress.specs.Elements.{Regrouped}
-use Rattle.compress.specs.Headers.{Placed}
+use Rattle.gather.specs.Elements.{Regrouped}
+use Rattle.place.specs.Headers.{Placed}
 use Rattle.compress.proofs.Final.{elems-final, shared-final}
 
 module _ (st : State) (lent : List ℕ) (reset : Bool) where

@@ -21,10 +21,9 @@ use Rattle.rules.proofs.laws.Places.{in-at, place-at, upto, upto-is, cells-ext,
 use Rattle.rules.proofs.laws.Order.{Listed, frames-listed, classes-listed}
 use Rattle.rules.proofs.laws.Compress.{listed-live, live-fits, frame-column, header-column, renumbered-lengths}
 use Rattle.rules.proofs.laws.Blocks.{ahead, ahead-next, ahead-all, ahead-le, ahead-some, Block, block-of, runsOf, frames-flat, runs-some, size-of, class-in}
-use Rattle.slots.specs.Asked.{Within}
-use Rattle.compress.specs.Elements.{carriedFrame, Moved, Regrouped}
-use Rattle.compress.specs.Headers.{Beside, slotIn, begins, named, Blocks, Placeable, Placed}
-use Rattle.compress.proofs.Scan.{order-fits}
+use Rattle.gather.specs.Elements.{carriedFrame, Moved, Regrouped}
+use Rattle.place.specs.Headers.{begins, named, Blocks, Placeable, Placed}
+use Rattle.gather.proofs.Scan.{order-fits}
 
 cell-past : (w : ℕ) (t : List ℕ) (f n u : ℕ) → n ≤ u → ((j : ℕ) → n * w ≤ j → getD t j 0 ≡ 0) → cell w t f (suc u) ≡ 0
 unfolding cell

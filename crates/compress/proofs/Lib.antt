@@ -1,10 +1,3 @@
--- The loops' invariants: how each begins, goes on and ends; and that both sides together leave what the rule says.
-pub mod Swaps
-pub mod Exchanges
-pub mod Passes
-pub mod Shared
-pub mod Ring
-pub mod Scan
-pub mod Parts
+-- Both sides together leave what the rule says.
 pub mod Final
 pub mod Call

@@ -1,3 +1,0 @@
--- What the functions of compression ask and leave.
-pub mod Elements
-pub mod Headers

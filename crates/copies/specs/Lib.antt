@@ -1,0 +1,2 @@
+-- What the copies of compression ask and leave.
+pub mod Parts

@@ -1,0 +1,2 @@
+-- What the element side of compression asks and leaves.
+pub mod Elements

@@ -1,0 +1,2 @@
+-- What the shared side of compression asks and leaves.
+pub mod Headers

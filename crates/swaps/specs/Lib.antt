@@ -1,0 +1,2 @@
+-- What the swaps of headers ask and leave.
+pub mod Swaps
