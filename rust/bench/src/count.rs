@@ -51,7 +51,7 @@ fn counted(batch: usize, side: usize, per: usize) -> Option<f64> {
 
 pub fn table() {
     println!("\nInstructions a call, {SLOTS} slots, half of them in rings of four (callgrind)");
-    println!("`adds` is the host call less its check; `rows` and the oracle check nothing.");
+    println!("`adds` is the host call less its check; `rows`, which checks nothing, is its call less the choice of it.");
     let columns = ["archive", "rust", "archive adds", "rust adds", "rows", "oracle", "a/r adds", "a adds/rows"];
     print!("{:<20}", "");
     columns.iter().for_each(|column| print!("{column:>14}"));
@@ -60,11 +60,12 @@ pub fn table() {
     // what the loop over the calls takes is no call's own
     let nothing = [0, 1, 2, 3].map(|side| count(0, side));
     let check = (count(1, 0) - nothing[0], count(1, 1) - nothing[1]);
+    let choice = count(1, 2) - nothing[2];
     println!("{:<20}{:>14.0}{:>14.0}", "check", check.0, check.1);
     for (at, batch) in batches().iter().enumerate().skip(2) {
         let count = |side: usize| count(at, side) - nothing[side];
         let (archive, rust) = (if batch.is_there() { count(0) } else { f64::NAN }, count(1));
-        let (adds, rust_adds, rows, oracle) = (archive - check.0, rust - check.1, count(2), count(3));
+        let (adds, rust_adds, rows, oracle) = (archive - check.0, rust - check.1, count(2) - choice, count(3));
         println!(
             "{:<20}{archive:>14.0}{rust:>14.0}{adds:>14.0}{rust_adds:>14.0}{rows:>14.0}{oracle:>14.0}{:>14.2}{:>14.2}",
             batch.name,

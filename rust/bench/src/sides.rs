@@ -192,7 +192,9 @@ fn step(rows: &mut Rows, call: &Call, lent: &mut [u64]) -> Option<u64> {
         Call::DrainAll => rows.drain_all(lent).ok(),
         Call::Clear => Some(u64::from(rows.clear())),
         Call::CompressCanonical { reset } => rows.compress_canonical(reset != 0, lent).ok().map(u64::from),
-        Call::Fresh { .. } | Call::Check => None,
+        // the rows arena has no check: what is counted here is the choice of a call alone
+        Call::Check => Some(0),
+        Call::Fresh { .. } => None,
     }
 }
 
