@@ -1,4 +1,3 @@
 -- The loops' invariants: how each begins, goes on and ends.
-pub mod Cells
 pub mod Ring
 pub mod Parts

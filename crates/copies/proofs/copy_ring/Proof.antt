@@ -1,6 +1,6 @@
 use Prim.Native.Nat.{_-_}
 use native.Mathlib.Omega.{arith}
-use Rattle.copies.proofs.Cells.{cell-of}
+use Rattle.slots.proofs.Cells.{cell-of}
 use Rattle.copies.proofs.Ring.{Copying, copying-start, copying-at, copying-row, copying-next, copying-done}
 use Rattle.copies.proofs.copy_ring.Statement.{statement}
 use Rattle.copies.proofs.copy_ring.Tie as tie

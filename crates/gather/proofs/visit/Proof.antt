@@ -1,7 +1,7 @@
 use mathlib.Core.Path.{refl, sym, _∙_}
 use native.Mathlib.Omega.{arith}
 use Rattle.gather.specs.Elements.{passed, met}
-use Rattle.copies.proofs.Cells.{cell-of}
+use Rattle.slots.proofs.Cells.{cell-of}
 use borrow.Author.Needs.{needs}
 use Rattle.gather.proofs.visit.Statement.{statement}
 use Rattle.gather.proofs.visit.Tie as tie

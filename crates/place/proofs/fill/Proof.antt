@@ -1,6 +1,6 @@
 use Prim.Native.Nat.{_-_}
 use native.Mathlib.Omega.{arith}
-use Rattle.copies.proofs.Cells.{cell-of}
+use Rattle.slots.proofs.Cells.{cell-of}
 use Rattle.place.proofs.Passes.{Filling, filling-start, filling-at, filling-next, filling-done}
 use Rattle.place.proofs.fill.Statement.{statement}
 use Rattle.place.proofs.fill.Tie as tie

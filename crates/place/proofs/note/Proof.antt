@@ -1,6 +1,6 @@
 use Prim.Native.Nat.{_-_}
 use native.Mathlib.Omega.{arith}
-use Rattle.copies.proofs.Cells.{cell-of}
+use Rattle.slots.proofs.Cells.{cell-of}
 use Rattle.place.proofs.Passes.{Noting, noting-start, noting-at, noting-header, noting-entry, noting-small, noting-next, noting-done}
 use Rattle.place.proofs.note.Statement.{statement}
 use Rattle.place.proofs.note.Tie as tie

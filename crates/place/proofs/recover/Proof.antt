@@ -1,6 +1,6 @@
 use Prim.Native.Nat.{_-_}
 use native.Mathlib.Omega.{arith}
-use Rattle.copies.proofs.Cells.{cell-of}
+use Rattle.slots.proofs.Cells.{cell-of}
 use Rattle.place.proofs.Passes.{Recovering, recovering-start, recovering-header, recovering-room, recovering-next, recovering-done}
 use Rattle.place.proofs.recover.Statement.{statement}
 use Rattle.place.proofs.recover.Tie as tie

@@ -1,7 +1,7 @@
 use mathlib.Core.Path.{sym, _∙_}
 use native.Mathlib.Omega.{arith}
 use Rattle.rules.proofs.laws.Pools.{if-eq, if-ne}
-use Rattle.copies.proofs.Cells.{cell-of}
+use Rattle.slots.proofs.Cells.{cell-of}
 use Rattle.swaps.proofs.Exchanges.{exchanged-same}
 use borrow.Author.Needs.{needs}
 use Rattle.swaps.proofs.bring.Statement.{statement}

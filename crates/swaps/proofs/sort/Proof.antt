@@ -1,6 +1,6 @@
 use Prim.Native.Nat.{suc, _-_}
 use native.Mathlib.Omega.{arith}
-use Rattle.copies.proofs.Cells.{cell-of}
+use Rattle.slots.proofs.Cells.{cell-of}
 use Rattle.swaps.proofs.Exchanges.{Sorts, sorts-start, sorts-entry, sorts-follow, sorts-one, sorts-two, sorts-next, sorts-done}
 use Rattle.swaps.proofs.sort.Statement.{statement}
 use Rattle.swaps.proofs.sort.Tie as tie
