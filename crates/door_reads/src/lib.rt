@@ -58,7 +58,7 @@ pub fn set(head: Head, elems: &mut [u64], shared: &[u64], key: Key, payload: u64
 {
     match gate(head, elems, shared) {
         Done::Refused(n) => Number::Refused(n),
-        Done::Done => reads::set(head, elems, shared, key, payload),
+        Done::Done => sets::set(head, elems, shared, key, payload),
     }
 }
 
@@ -68,7 +68,7 @@ pub fn set_shared(head: Head, elems: &[u64], shared: &mut [u64], key: Key, value
 {
     match gate(head, elems, shared) {
         Done::Refused(n) => Number::Refused(n),
-        Done::Done => reads::set_shared(head, elems, shared, key, value),
+        Done::Done => sets::set_shared(head, elems, shared, key, value),
     }
 }
 

@@ -1,15 +1,14 @@
 -- What the functions over whole runs answer.
 use Prim.Native.Nat.{ℕ, _*_}
 use mathlib.Core.Path.{_≡_}
-use mathlib.Core.List.{List, _++_}
-use lib.ListN.{length, drop}
+use mathlib.Core.List.{List}
 use lib.Seq.{sets}
 use Rattle.rules.specs.declared.Head.{Head}
 use Rattle.rules.specs.declared.Rest.{Rest}
 use Rattle.rules.specs.declared.Rest.the-variants.{GoesOn, Last}
 use Rattle.rules.specs.Tables.{State, stateOf, row}
 use Rattle.rules.specs.Runs.{removed}
-use Rattle.rules.specs.Drains.{recordWidth, drainRecord, drainRecords, drained, allRecords, allDrained}
+use Rattle.rules.specs.Drains.{recordWidth, drainRecord, drainRecords, drained}
 
 -- Rules 10: what a record says of the run, as two numbers
 abbrev pub lastMark : Rest → ℕ
@@ -29,8 +28,3 @@ pub record Gone (st : State) (x : ℕ) (out : List ℕ) (place : ℕ) (next : He
 pub record Drained (st : State) (n x : ℕ) (out : List ℕ) (written : ℕ) (next : Head) (e s out′ : List ℕ) : Type 0 where
   pub state : stateOf next e s ≡ drained n st x
   pub lent : out′ ≡ sets out (written * recordWidth) (drainRecords n st x)
-
--- Rules 11: all runs are drained, before the clear
-pub record Emptied (st : State) (out : List ℕ) (next : Head) (e s out′ : List ℕ) : Type 0 where
-  pub state : stateOf next e s ≡ allDrained (st .head .shared .live) st
-  pub lent : out′ ≡ allRecords (st .head .shared .live) st ++ drop (length (allRecords (st .head .shared .live) st)) out

@@ -18,10 +18,3 @@ pub record Run (st : State) (n x : ℕ) : Type 0 where
 pub record Drains (st : State) (n x : ℕ) (out : List ℕ) (written : ℕ) : Type 0 where
   pub run : Run st n x
   pub room : (written + n) * recordWidth ≤ length out
-
--- Rules 11: a slot is met, with room for the records of all frames that are left
-pub record Visits (st : State) (slot : ℕ) (out : List ℕ) (written : ℕ) : Type 0 where
-  pub ready : Ready st
-  pub low : 1 ≤ slot
-  pub high : slot ≤ st .head .elems .extent
-  pub room : (written + st .head .elems .live) * recordWidth ≤ length out

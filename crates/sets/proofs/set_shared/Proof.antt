@@ -1,0 +1,51 @@
+use Rattle.rules.specs.Reads.{setShared}
+use Rattle.slots.proofs.Live.{on-live}
+use Rattle.rules.proofs.laws.Safe.{safe}
+use mathlib.Core.Path.{_∙_}
+use borrow.Author.Needs.{needs}
+use Rattle.sets.proofs.set_shared.Statement.{statement}
+use Rattle.sets.proofs.set_shared.Tie as tie
+use Rattle.sets.proofs.set_shared.Reads as reads
+
+find-requires : tie.Need-find-requires
+find-requires c κs = let s = safe _ (c .before .before .pre) in search needs
+
+enum-known-x : tie.Need-enum-known-x
+enum-known-x c = search needs
+
+enum-told : tie.Need-enum-told
+enum-told c = search needs
+
+returns : tie.Need-returns
+unfolding setShared
+returns c = let s = c .before .before .before .before .before .args .shared .now in rw ((c .before .before .find .ensures s .same) ∙ (c .enum-told .given .1))
+
+get-requires : tie.Need-get-requires
+get-requires c κs = let l = on-live _ _ _ _ (c .before .before .before .before .before .before .pre) (c .before .before .before .find .ensures _) (c .before .x .given .1) in search needs
+
+get-requires-2 : tie.Need-get-requires-2
+get-requires-2 c κs = let l = on-live _ _ _ _ (c .before .before .before .before .before .before .before .before .pre) (c .before .before .before .before .before .find .ensures _) (c .before .before .before .x .given .1) in rw (c .before .get .ensures) (search needs)
+
+put-requires : tie.Need-put-requires
+put-requires c κs = let l = on-live _ _ _ _ (c .before .before .before .before .before .before .before .before .before .before .pre) (c .before .before .before .before .before .before .before .find .ensures _) (c .before .before .before .before .before .x .given .1) in rw (c .before .before .before .get .ensures) (search needs)
+
+same-length : tie.Need-same-length
+same-length c = search needs
+
+returns-2 : tie.Need-returns-2
+unfolding setShared
+returns-2 c = let s = c .before .before .before .before .before .before .before .before .before .before .before .before .before .args .shared .now in rw ((c .before .before .before .before .before .before .before .before .before .before .find .ensures s .same) ∙ (c .before .before .before .before .before .before .before .before .x .given .1), (c .before .before .put .ensures), (c .before .before .before .before .get2 .ensures), (c .before .before .before .before .before .before .get .ensures))
+
+pub set-shared-spec : {M : Type 1} → statement M
+set-shared-spec =
+    tie.close
+    (tie.spec
+    find-requires
+    enum-known-x
+    enum-told
+    returns
+    get-requires
+    get-requires-2
+    put-requires
+    same-length
+    returns-2)

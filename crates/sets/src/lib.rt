@@ -1,0 +1,44 @@
+// Sets (Rules 1) at the inner door: each equal to its rule, on a ready state.
+use rules::CLASS;
+use rules::FRAME;
+use rules::Found;
+use rules::HEADER;
+use rules::Head;
+use rules::Key;
+use rules::Number;
+use rules::PAYLOAD;
+use rules::Refusal;
+use rules::VALUE;
+ghost use mathlib.Core.Path.{_≡_};
+ghost use mathlib.Core.Bool.{false};
+ghost use mathlib.Core.List.{[]};
+ghost use Rattle.rules.specs.Tables.{stateOf};
+ghost use Rattle.rules.specs.Calls.{Ready, step, setElement, setShared};
+ghost use Rattle.rules.specs.Answers.{leaves, saidNumber};
+
+// A new payload; the answer is the old one.
+pub fn set(head: Head, elems: &mut [u64], shared: &[u64], key: Key, payload: u64) -> Number
+    requires { ⌜ Ready (stateOf head (now elems) (now shared)) ⌝ }
+    ensures { λ r. ⌜ leaves head (now (elems .exit)) (now (shared .entry)) [] (saidNumber r false) ≡ step (stateOf head (now (elems .entry)) (now (shared .entry))) [] (setElement key payload) ⌝ }
+{
+    let Found::Live(x) = slots::find(head, elems, key) else {
+        return Number::Refused(Refusal::Dead);
+    };
+    let old = slots::get(elems, FRAME, PAYLOAD, x);
+    slots::put(elems, FRAME, x, PAYLOAD, payload);
+    Number::Is(old)
+}
+
+// A new value of the class; the answer is the old one.
+pub fn set_shared(head: Head, elems: &[u64], shared: &mut [u64], key: Key, value: u64) -> Number
+    requires { ⌜ Ready (stateOf head (now elems) (now shared)) ⌝ }
+    ensures { λ r. ⌜ leaves head (now (elems .entry)) (now (shared .exit)) [] (saidNumber r false) ≡ step (stateOf head (now (elems .entry)) (now (shared .entry))) [] (setShared key value) ⌝ }
+{
+    let Found::Live(x) = slots::find(head, elems, key) else {
+        return Number::Refused(Refusal::Dead);
+    };
+    let class = slots::get(elems, FRAME, CLASS, x);
+    let old = slots::get(shared, HEADER, VALUE, class);
+    slots::put(shared, HEADER, class, VALUE, value);
+    Number::Is(old)
+}

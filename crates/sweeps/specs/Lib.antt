@@ -1,0 +1,2 @@
+-- Drain all, step by step.
+pub mod Sweep
