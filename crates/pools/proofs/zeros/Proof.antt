@@ -1,13 +1,13 @@
 use mathlib.Core.List.{List}
 use Rattle.rules.proofs.laws.Chains.{Both}
-use Rattle.sound.proofs.Empty.{ZeroTo, zero-more, zero-past}
+use Rattle.pools.proofs.Empty.{ZeroTo, zero-more, zero-past}
 use lib.ListN.{length, getD, List·getD-eq-default}
 use native.Mathlib.Decide.{decLt}
 use mathlib.Core.Path.{_≡_, refl}
 use Prim.Native.Nat.{ℕ, _+_, _*_, _-_, _≤_, _<_}
 use native.Mathlib.Omega.{arith}
-use Rattle.sound.proofs.zeros.Statement.{statement}
-use Rattle.sound.proofs.zeros.Tie as tie
+use Rattle.pools.proofs.zeros.Statement.{statement}
+use Rattle.pools.proofs.zeros.Tie as tie
 
 abbrev Inv-loop : tie.InvT-loop
 Inv-loop t from any₀ i₀ any i = (from ≤ i) × Both (any ≡ 0) (ZeroTo t from i)

@@ -2,8 +2,8 @@ use mathlib.Core.Path.{sym, ap, _∙_}
 use native.Mathlib.Omega.{arith}
 use borrow.Author.Needs.{needs}
 use Rattle.rules.specs.Tables.{previousOf}
-use Rattle.sound.proofs.frame_ok.Statement.{statement}
-use Rattle.sound.proofs.frame_ok.Tie as tie
+use Rattle.turns.proofs.frame_ok.Statement.{statement}
+use Rattle.turns.proofs.frame_ok.Tie as tie
 
 get-requires : tie.Need-get-requires
 get-requires c κs = search needs

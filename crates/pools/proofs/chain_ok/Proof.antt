@@ -1,5 +1,5 @@
 use Rattle.rules.proofs.laws.Chains.{Both, Linked, linked-end, linked-none, linked-free, linked-step}
-use Rattle.sound.proofs.Ask.{row-in}
+use Rattle.pools.proofs.Ask.{row-in}
 use Rattle.rules.proofs.laws.Pools.{Free}
 use Rattle.rules.specs.Tables.{cell}
 use lib.ListN.{length}
@@ -7,8 +7,8 @@ use mathlib.Core.Path.{_≡_, refl, sym, _∙_}
 use Prim.Native.Nat.{ℕ, _+_, _*_, _-_, _≤_, _<_}
 use native.Mathlib.Omega.{arith}
 use borrow.Author.Needs.{needs}
-use Rattle.sound.proofs.chain_ok.Statement.{statement}
-use Rattle.sound.proofs.chain_ok.Tie as tie
+use Rattle.pools.proofs.chain_ok.Statement.{statement}
+use Rattle.pools.proofs.chain_ok.Tie as tie
 
 abbrev Inv-loop : tie.InvT-loop
 Inv-loop t width link extent root x₀ left₀ x left = (left ≤ extent) × Both (Linked (cell width t 0) (cell width t link) extent left x) (Linked (cell width t 0) (cell width t link) extent extent root)

@@ -2,9 +2,9 @@
 use Prim.Native.Nat.{_*_, _≤_}
 use native.Mathlib.Omega.{arith}
 use native.Mathlib.Nat.{mul-le-mul}
-use Rattle.sound.proofs.Shapes.{fits-none, fits-over, fits-long}
-use Rattle.sound.proofs.fits.Statement.{statement}
-use Rattle.sound.proofs.fits.Tie as tie
+use Rattle.shape.proofs.Shapes.{fits-none, fits-over, fits-long}
+use Rattle.shape.proofs.fits.Statement.{statement}
+use Rattle.shape.proofs.fits.Tie as tie
 
 returns : tie.Need-returns
 returns c = fits-none _ _ _ (c .if1 .taken)

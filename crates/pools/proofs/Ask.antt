@@ -5,7 +5,7 @@ use Prim.Native.Nat.{ℕ, _*_, _≤_}
 use native.Mathlib.Nat.{mul-le-mul-right}
 use native.Mathlib.Omega.{arith}
 use Rattle.rules.specs.Calls.{Is}
-use Rattle.sound.specs.Parts.{Verdict}
+use Rattle.pools.specs.Pools.{Verdict}
 
 pub if-yes : {P : Type 0} (r : Bool) → r ≡ true → Is P r → P
 if-yes {P} r t a = subst (λ (b : Bool). Is P b) t a

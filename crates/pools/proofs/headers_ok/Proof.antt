@@ -1,15 +1,15 @@
 use mathlib.Core.Logic.{_≢_}
 use Rattle.rules.proofs.laws.Pools.{lives, lives-free, lives-live}
 use Rattle.rules.proofs.laws.Count.{lives-le}
-use Rattle.sound.specs.Parts.{HeaderOk, Headers}
+use Rattle.pools.specs.Pools.{HeaderOk, Headers}
 use Rattle.rules.specs.Tables.{cell, headerWidth}
 use mathlib.Core.Path.{_≡_, refl, sym, _∙_}
 use Prim.Native.Nat.{ℕ, _+_, _*_, _-_, _≤_, _<_}
 use native.Mathlib.Omega.{arith}
 use borrow.Author.Count.{below-more}
 use borrow.Author.Needs.{needs}
-use Rattle.sound.proofs.headers_ok.Statement.{statement}
-use Rattle.sound.proofs.headers_ok.Tie as tie
+use Rattle.pools.proofs.headers_ok.Statement.{statement}
+use Rattle.pools.proofs.headers_ok.Tie as tie
 
 abbrev Inv-loop : tie.InvT-loop
 Inv-loop s extent live got₀ i₀ got i = (i ≤ extent) × (lives (cell headerWidth s 0) i ≡ got) × ((k : ℕ) → k < i → HeaderOk s (k + 1))

@@ -1,56 +1,20 @@
--- What the parts of the check decide.
+-- What the scan rests on, finds at each slot, and has found in the end.
 use mathlib.Core.Path.{_≡_}
 use mathlib.Core.Logic.{_≢_}
-use mathlib.Core.Bool.{Bool, true, false}
+use mathlib.Core.Bool.{true, false}
 use mathlib.Core.List.{List, [], _∷_, _++_}
-use Prim.Native.Nat.{ℕ, suc, _+_, _*_, _-_, _≤_, _<_}
-use lib.ListN.{length, getD}
+use Prim.Native.Nat.{ℕ, suc, _*_, _-_, _≤_, _<_}
+use lib.ListN.{length}
 use Rattle.marks.specs.Marks.{marked, Added}
-use Rattle.rules.specs.declared.Pool.{Pool}
-use Rattle.rules.specs.Tables.{mostSlots, frameWidth, headerWidth, cell, generationOf, payloadOf, classOf, previousOf, nextOf, countOf, valueOf, nextFreeOf, State}
+use Rattle.rules.specs.Tables.{mostSlots, frameWidth, headerWidth, generationOf, classOf, nextOf, countOf, State}
 use Rattle.rules.specs.Sound.{Sound}
 use Rattle.rules.specs.Refusals.{shaped}
 use Rattle.rules.proofs.laws.Lists.{All, In, NoDup, Walk}
 use Rattle.rules.proofs.laws.Pools.{lives}
-use Rattle.rules.proofs.laws.Chains.{Linked}
 use Rattle.rules.proofs.laws.Rounds.{Within, Fit, Round}
+use Rattle.turns.specs.Turns.{FreeOk}
 use Rattle.sound.specs.declared.Turn.{Turn}
 use Rattle.sound.specs.declared.Turn.the-variants.{Free, Seen, First, Wrong}
-
--- true with a proof of the one, false with a refutation of the other
-abbrev pub Verdict : Type 0 → Type 0 → Bool → Type 0
-Verdict Y N true = Y
-Verdict Y N false = N → ⊥
-
--- nothing but zeros from here on
-abbrev pub Zeros : List ℕ → ℕ → Type 0
-Zeros t from = (i : ℕ) → from ≤ i → getD t i 0 ≡ 0
-
--- a table that fits its pool's capacity
-pub record Roomy (p : Pool) (width : ℕ) (t : List ℕ) : Type 0 where
-  pub most : p .capacity ≤ mostSlots
-  pub long : length t ≡ p .capacity * width
-
--- Sound 2, 5 and 6 of one table
-pub record PoolOk (p : Pool) (width link : ℕ) (t : List ℕ) : Type 0 where
-  pub extent : p .extent ≤ p .capacity
-  pub zeros : Zeros t (p .extent * width)
-  pub chain : Linked (cell width t 0) (cell width t link) (p .extent) (p .extent) (p .root)
-
--- Sound 6 of a shared slot; and of all, with Sound 3
-pub record HeaderOk (s : List ℕ) (c : ℕ) : Type 0 where
-  pub free : countOf s c ≡ 0 → valueOf s c ≡ 0
-  pub live : countOf s c ≢ 0 → nextFreeOf s c ≡ 0
-
-pub record Headers (s : List ℕ) (m live : ℕ) : Type 0 where
-  pub slots : (c : ℕ) → c < m → HeaderOk s (c + 1)
-  pub number : lives (countOf s) m ≡ live
-
--- Sound 6 of a free element slot
-pub record FreeOk (e : List ℕ) (x : ℕ) : Type 0 where
-  pub payload : payloadOf e x ≡ 0
-  pub class : classOf e x ≡ 0
-  pub previous : previousOf e x ≡ 0
 
 -- what the scan rests on: shape, and extents within capacity
 pub record Fitting (st : State) : Type 0 where

@@ -1,9 +1,9 @@
 use mathlib.Core.Path.{_∙_}
 use borrow.Author.Tests.{not-true, not-false}
-use Rattle.sound.proofs.Shapes.{neither-fit, first-fits}
+use Rattle.shape.proofs.Shapes.{neither-fit, first-fits}
 use borrow.Author.Needs.{needs}
-use Rattle.sound.proofs.both_fit.Statement.{statement}
-use Rattle.sound.proofs.both_fit.Tie as tie
+use Rattle.shape.proofs.both_fit.Statement.{statement}
+use Rattle.shape.proofs.both_fit.Tie as tie
 
 fits-requires : tie.Need-fits-requires
 fits-requires c κs = search needs

@@ -1,13 +1,13 @@
 use Rattle.rules.proofs.laws.Chains.{Both}
 use Rattle.rules.proofs.laws.Rounds.{Within, Round, round-none, round-fit, round-last, round-early, round-step}
-use Rattle.sound.proofs.Ask.{if-yes, if-no}
+use Rattle.pools.proofs.Ask.{if-yes, if-no}
 use mathlib.Core.Path.{_≡_, refl, sym, _∙_}
 use Prim.Native.Nat.{ℕ, _+_, _*_, _-_, _≤_, _<_}
 use native.Mathlib.Omega.{arith}
 use borrow.Author.Tests.{not-true, not-false}
 use borrow.Author.Needs.{needs}
-use Rattle.sound.proofs.ring_ok.Statement.{statement}
-use Rattle.sound.proofs.ring_ok.Tie as tie
+use Rattle.turns.proofs.ring_ok.Statement.{statement}
+use Rattle.turns.proofs.ring_ok.Tie as tie
 
 abbrev Inv-loop : tie.InvT-loop
 Inv-loop e extent class x count y₀ left₀ y left = Within extent y × Both (Round e extent class x left y) (Round e extent class x count x)

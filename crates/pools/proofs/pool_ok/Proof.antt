@@ -1,11 +1,11 @@
-use Rattle.sound.proofs.Ask.{if-yes, if-no, extent-in}
+use Rattle.pools.proofs.Ask.{if-yes, if-no, extent-in}
 use borrow.Author.Tests.{not-true, not-false}
 use native.Mathlib.Nat.{mul-le-mul}
 use native.Mathlib.Omega.{arith}
 use Prim.Native.Nat.{_*_, _≤_}
 use borrow.Author.Needs.{needs}
-use Rattle.sound.proofs.pool_ok.Statement.{statement}
-use Rattle.sound.proofs.pool_ok.Tie as tie
+use Rattle.pools.proofs.pool_ok.Statement.{statement}
+use Rattle.pools.proofs.pool_ok.Tie as tie
 
 returns : tie.Need-returns
 returns c = search needs

@@ -1,6 +1,6 @@
 use borrow.Author.Needs.{needs}
-use Rattle.sound.proofs.is_shaped.Statement.{statement}
-use Rattle.sound.proofs.is_shaped.Tie as tie
+use Rattle.shape.proofs.is_shaped.Statement.{statement}
+use Rattle.shape.proofs.is_shaped.Tie as tie
 
 both-fit-requires : tie.Need-both-fit-requires
 both-fit-requires c κs = search needs

@@ -9,7 +9,7 @@ use lib.ListN.{length, getD, List·getD-eq-default}
 use lib.Bits.{bitOr, or-add-and, and-le-l, and-le-r}
 use Rattle.rules.specs.Tables.{cell}
 use Rattle.rules.proofs.laws.Chains.{Both}
-use Rattle.sound.specs.Parts.{Zeros}
+use Rattle.pools.specs.Pools.{Zeros}
 
 -- ---- the loop that gathers them
 or-none : (a b : ℕ) → bitOr a b ≡ 0 → (a ≡ 0) × (b ≡ 0)
