@@ -13,7 +13,7 @@ ghost use Rattle.gate.specs.Gate.{Gated};
 pub fn gate(head: Head, elems: &[u64], shared: &[u64]) -> Done
     ensures { λ r. ⌜ Gated (stateOf head (now (elems .entry)) (now (shared .entry))) r ⌝ }
 {
-    if !sound::is_shaped(head, elems, shared) {
+    if !shape::is_shaped(head, elems, shared) {
         return Done::Refused(Refusal::Shape);
     }
     if !sound::is_sound(head, elems, shared) {

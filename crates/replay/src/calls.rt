@@ -12,6 +12,7 @@ use crate::names::key;
 use crate::names::number;
 use crate::names::wide;
 use crate::whole;
+use rules::Done;
 use rules::Head;
 use rules::Key;
 use rules::Number;
@@ -105,28 +106,25 @@ fn set(
     exchange(head, elems, shared, given, record)
 }
 
-fn exchange(
-    head: Head,
-    elems: &[u64],
-    shared: &mut [u64],
-    given: &[u64; 512],
-    record: &[u8; 32],
-) -> bool {
-    let keys = [
+fn four_keys(given: &[u64; 512], record: &[u8; 32]) -> [Key; 4] {
+    [
         key(given, record[1]),
         key(given, record[2]),
         key(given, record[3]),
         key(given, record[4]),
-    ];
-    let values = [
+    ]
+}
+
+fn four_values(record: &[u8; 32]) -> [u64; 4] {
+    [
         number(record[5]),
         number(record[6]),
         number(record[7]),
         number(record[8]),
-    ];
-    let said = door::exchange_disjoint_shared(head, elems, shared, keys, values);
-    let answer = said.answer;
-    let old = said.old;
+    ]
+}
+
+fn are_old(answer: Done, old: [u64; 4], record: &[u8; 32]) -> bool {
     if record[REFUSED] != 0 {
         return is_done(answer, record);
     }
@@ -137,4 +135,18 @@ fn exchange(
         && is_answer(1, old[1], record)
         && is_answer(2, old[2], record)
         && is_answer(3, old[3], record)
+}
+
+fn exchange(
+    head: Head,
+    elems: &[u64],
+    shared: &mut [u64],
+    given: &[u64; 512],
+    record: &[u8; 32],
+) -> bool {
+    let keys = four_keys(given, record);
+    let said =
+        door::exchange_disjoint_shared(head, elems, shared, keys, four_values(record));
+    let answer = said.answer;
+    are_old(answer, said.old, record)
 }

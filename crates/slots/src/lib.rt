@@ -123,11 +123,11 @@ pub fn find(head: Head, elems: &[u64], key: Key) -> Found
     if head.elems.extent < slot {
         return Found::Dead;
     }
-    // only a free slot has generation 0
-    if key.generation == 0 {
+    let generation = get(elems, FRAME, GENERATION, slot);
+    if generation == 0 {
         return Found::Dead;
     }
-    if get(elems, FRAME, GENERATION, slot) == key.generation {
+    if generation == key.generation {
         return Found::Live(slot);
     }
     Found::Dead

@@ -13,8 +13,9 @@ use Rattle.rules.proofs.laws.Lists.{All, In, Out, NoDup, all-at, all-of, in-par
 use Rattle.rules.proofs.laws.Pools.{lives-free, lives-live}
 use Rattle.rules.proofs.laws.Count.{lives-le, fewer}
 use Rattle.rules.proofs.laws.Rounds.{Within, Fit, Round, went, went-once}
-use Rattle.sound.specs.Parts.{FreeOk, FrameAt, FirstAt, Run, frames, classes, slots, RunOk, Scan}
-use Rattle.sound.proofs.Ask.{differ}
+use Rattle.turns.specs.Turns.{FreeOk}
+use Rattle.sound.specs.Scans.{FrameAt, FirstAt, Run, frames, classes, slots, RunOk, Scan}
+use Rattle.pools.proofs.Ask.{differ}
 
 -- ---- lists of runs
 pub run-at : (y : ℕ) (rs : List Run) → In y (slots rs) → (r : Run) × In r rs × In y (frames r)

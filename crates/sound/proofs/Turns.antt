@@ -16,7 +16,8 @@ use Rattle.rules.proofs.laws.Rounds.{Within, Round, round-of}
 use Rattle.rules.proofs.laws.Soundness.{shaped-of, working-of-sound}
 use Rattle.sound.specs.declared.Turn.{Turn}
 use Rattle.sound.specs.declared.Turn.the-variants.{Free, Seen, First, Wrong}
-use Rattle.sound.specs.Parts.{FreeOk, Fitting, FrameAt, FirstAt, Turned, Scan, Scanned}
+use Rattle.turns.specs.Turns.{FreeOk}
+use Rattle.sound.specs.Scans.{Fitting, FrameAt, FirstAt, Turned, Scan, Scanned}
 use Rattle.sound.proofs.Scans.{skip-free, skip-seen, take-ring, numbered}
 use Rattle.sound.proofs.Whole.{must-free, must-class, must-live, must-met, must-rings}
 

@@ -4,7 +4,7 @@ use rules::Head;
 use rules::HeadDone;
 use rules::Pool;
 use rules::Refusal;
-use sound::both_fit;
+use shape::both_fit;
 ghost use mathlib.Core.Path.{_≡_};
 ghost use mathlib.Core.List.{List, []};
 ghost use Prim.Native.Nat.{ℕ, _+_, _*_, _≤_, _<_};

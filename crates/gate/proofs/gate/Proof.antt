@@ -1,6 +1,6 @@
 -- The two tests, in their order, decide what the door gives.
 use Rattle.rules.proofs.laws.Doors.{misshapen, unsound}
-use Rattle.sound.proofs.Ask.{if-yes, if-no}
+use Rattle.pools.proofs.Ask.{if-yes, if-no}
 use borrow.Author.Tests.{not-true, not-false}
 use mathlib.Core.Path.{_∙_}
 use borrow.Author.Needs.{needs}

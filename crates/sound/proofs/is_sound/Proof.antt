@@ -1,6 +1,6 @@
 use Rattle.sound.proofs.Turns.{work}
 use Rattle.sound.proofs.Whole.{working-found, must-headers, must-shared, must-elems}
-use Rattle.sound.proofs.Ask.{if-yes, if-no, settle}
+use Rattle.pools.proofs.Ask.{if-yes, if-no, settle}
 use Rattle.rules.proofs.laws.Soundness.{shaped-of, sound-of-working}
 use Rattle.rules.specs.Sound.{Sound}
 use Rattle.rules.specs.Tables.{stateOf}

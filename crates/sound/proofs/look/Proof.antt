@@ -1,5 +1,5 @@
 use Rattle.sound.proofs.Turns.{wrong-free, wrong-class, wrong-ring, frame-at, first-at}
-use Rattle.sound.proofs.Ask.{if-yes, if-no}
+use Rattle.pools.proofs.Ask.{if-yes, if-no}
 use Rattle.rules.specs.Tables.{stateOf}
 use borrow.Author.Tests.{not-true, not-false}
 use native.Mathlib.Omega.{arith}

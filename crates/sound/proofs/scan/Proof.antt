@@ -1,6 +1,6 @@
 use Rattle.sound.proofs.Turns.{turn-free, turn-seen, turn-first, turn-wrong, wrong-live, wrong-met, wrong-rings, scanned}
 use Rattle.sound.proofs.Scans.{begun, bounded, live-few}
-use Rattle.sound.specs.Parts.{Scan}
+use Rattle.sound.specs.Scans.{Scan}
 use Rattle.rules.specs.Tables.{stateOf}
 use lib.ListN.{length}
 use borrow.Author.Needs.{needs}

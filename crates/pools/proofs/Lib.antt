@@ -1,0 +1,3 @@
+-- Questions answered by a test; rows within a table; zeros.
+pub mod Ask
+pub mod Empty

@@ -1,0 +1,2 @@
+-- What the check of one table decides.
+pub mod Pools

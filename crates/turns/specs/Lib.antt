@@ -1,0 +1,2 @@
+-- What the check of one slot decides.
+pub mod Turns
