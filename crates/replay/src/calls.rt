@@ -145,8 +145,8 @@ fn exchange(
     record: &[u8; 32],
 ) -> bool {
     let keys = four_keys(given, record);
-    let said =
-        door::exchange_disjoint_shared(head, elems, shared, keys, four_values(record));
+    let said = door::exchange_disjoint_shared(head, elems, shared, keys, four_values(record));
     let answer = said.answer;
-    are_old(answer, said.old, record)
+    let old = said.old;
+    are_old(answer, old, record)
 }
