@@ -1,4 +1,5 @@
 // Compress canonical (Rules 14, Module 7), at the inner door: the element side, then the shared side.
+// Ported from compress_canonical of surject_arena.rs (triple_arena 0.15.1, NOTICE).
 use gather::regroup;
 use place::place;
 use rules::Done;

@@ -1,4 +1,5 @@
 // Drain a run (Rules 10) at the inner door, frame by frame: equal to its rule, on a ready state.
+// Ported from drain_surject of surject_iterators.rs (triple_arena 0.15.1, NOTICE).
 use removes::remove_at;
 use rings::lists::size_at;
 use rules::FRAME;

@@ -1,4 +1,5 @@
 // Rules 13: four-key exchange.
+// Ported from get_disjoint_shared_mut of surject_arena.rs, at four keys (triple_arena 0.15.1, NOTICE).
 use rules::CLASS;
 use rules::Done;
 use rules::Exchanged;

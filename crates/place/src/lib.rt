@@ -1,4 +1,5 @@
 // The shared side of compression (Rules 14), as in the Rust: run k's header comes to slot k, and every frame's class follows.
+// Ported from compress_canonical of surject_arena.rs, its headers (triple_arena 0.15.1, NOTICE).
 use copies::zero;
 use rules::CLASS;
 use rules::COUNT;

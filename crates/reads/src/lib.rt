@@ -1,4 +1,5 @@
 // Reads (Rules 1) at the inner door: each equal to its rule, on a ready state.
+// Ported from len_surject, in_same_surject and get_shared of surject_arena.rs (triple_arena 0.15.1, NOTICE).
 use rules::CLASS;
 use rules::COUNT;
 use rules::FRAME;

@@ -1,4 +1,5 @@
 // Remove (Rules 7) at the inner door: equal to its rule, on a ready state.
+// Ported from remove_element of surject_arena.rs (triple_arena 0.15.1, NOTICE).
 use rules::CLASS;
 use rules::COUNT;
 use rules::FRAME;

@@ -1,4 +1,5 @@
 // Sets (Rules 1) at the inner door: each equal to its rule, on a ready state.
+// Ported from get_shared_mut of surject_arena.rs (triple_arena 0.15.1, NOTICE).
 use rules::CLASS;
 use rules::FRAME;
 use rules::Found;

@@ -1,4 +1,5 @@
 // The soundness check, linear in the extents and capacities: the scan of the element slots, and the whole.
+// Ported from _check_surjects of surject_arena.rs (triple_arena 0.15.1, NOTICE), with what document 01 mends (docs/DIFFERENCES.md).
 use pools::headers_ok;
 use pools::pool_ok;
 use rules::CLASS;

@@ -1,4 +1,5 @@
 // Headers swapped into the order of their runs, as in the Rust: class entry k says where run k's header is, and where a swap took the one that stood at k.
+// Ported from compress_canonical of surject_arena.rs, its swaps of headers (triple_arena 0.15.1, NOTICE).
 use rules::CLASS;
 use rules::FRAME;
 use rules::HEADER;

@@ -1,4 +1,5 @@
 // Drain all (Rules 11) at the inner door, in one pass over the slots: equal to its rule, on a ready state.
+// Ported from drain_combined of surject_iterators.rs (triple_arena 0.15.1, NOTICE).
 use drains::RECORD_WIDTH;
 use drains::drain_run;
 use rings::lists::size_at;

@@ -1,4 +1,5 @@
 // Union (Rules 6) at the inner door: equal to its rule, on a ready state.
+// Ported from union of surject_arena.rs (triple_arena 0.15.1, NOTICE).
 use rules::CLASS;
 use rules::COUNT;
 use rules::FRAME;

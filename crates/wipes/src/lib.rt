@@ -1,4 +1,5 @@
 // Rules 2 and 12: fresh and clear.
+// Ported from clear of impl_surject_arena_trait.rs (triple_arena 0.15.1, NOTICE).
 use rules::Done;
 use rules::Head;
 use rules::HeadDone;
