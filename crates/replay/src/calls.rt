@@ -1,21 +1,21 @@
 // A record's call, made at the host's door and compared with the record's answers: reads and sets here.
-use crate::answers::COUNT;
-use crate::answers::REFUSED;
-use crate::answers::is_answer;
-use crate::answers::is_done;
-use crate::answers::is_number;
-use crate::answers::is_refused;
 use crate::answers::is_ring;
-use crate::answers::is_same;
 use crate::frames;
 use crate::names::key;
-use crate::names::number;
 use crate::names::wide;
 use crate::whole;
 use rules::Done;
 use rules::Head;
 use rules::Key;
 use rules::Number;
+use sample::COUNT;
+use sample::REFUSED;
+use sample::is_answer;
+use sample::is_done;
+use sample::is_number;
+use sample::is_refused;
+use sample::is_same;
+use sample::number;
 
 // The head after a call, and whether the answer was the same.
 pub struct Next {

@@ -1,18 +1,18 @@
 // Frames in and out.
-use crate::answers::FIRST;
-use crate::answers::REFUSED;
-use crate::answers::is_answer;
-use crate::answers::is_number;
-use crate::answers::is_refused;
 use crate::calls::Next;
 use crate::names::key;
 use crate::names::learn;
-use crate::names::number;
 use rules::Head;
 use rules::Inserted;
 use rules::Joined;
 use rules::Removed;
 use rules::Rest;
+use sample::FIRST;
+use sample::REFUSED;
+use sample::is_answer;
+use sample::is_number;
+use sample::is_refused;
+use sample::number;
 
 pub fn make(
     head: Head,

@@ -6,10 +6,6 @@ pub fn wide(x: u8) -> usize {
     x as usize
 }
 
-pub fn number(x: u8) -> u64 {
-    x as u64
-}
-
 pub fn key(given: &[u64; 512], frame: u8) -> Key {
     let at = wide(frame);
     if 256 <= at {

@@ -1,17 +1,17 @@
 // Calls on a whole ring or on all of them.
-use crate::answers::COUNT;
-use crate::answers::is_answer;
-use crate::answers::is_done;
-use crate::answers::is_number;
-use crate::answers::is_refused;
 use crate::answers::is_ring;
 use crate::calls::Next;
 use crate::names::forget;
 use crate::names::key;
-use crate::names::number;
 use crate::names::relearn;
 use rules::Head;
 use rules::Number;
+use sample::COUNT;
+use sample::is_answer;
+use sample::is_done;
+use sample::is_number;
+use sample::is_refused;
+use sample::number;
 
 pub fn make(
     head: Head,

@@ -1,0 +1,64 @@
+use borrow.Author.Needs.{needs}
+use Rattle.replay.proofs.answers.is_key.Statement.{statement}
+use Rattle.replay.proofs.answers.is_key.Tie as tie
+
+returns : tie.Need-returns
+returns c = search needs
+
+returns-2 : tie.Need-returns-2
+returns-2 c = search needs
+
+add-if3 : tie.Need-add-if3
+add-if3 c = search needs
+
+returns-3 : tie.Need-returns-3
+returns-3 c = search needs
+
+add-key : tie.Need-add-key
+add-key c = search needs
+
+element-copy-out-key : tie.Need-element-copy-out-key
+element-copy-out-key c = search needs
+
+key-requires : tie.Need-key-requires
+key-requires c κs = search needs
+
+mul-if4 : tie.Need-mul-if4
+mul-if4 c = search needs
+
+shared-slice-read-if4 : tie.Need-shared-slice-read-if4
+shared-slice-read-if4 c = search needs
+
+add-result : tie.Need-add-result
+add-result c = search needs
+
+mul-result : tie.Need-mul-result
+mul-result c = search needs
+
+shared-slice-read-result : tie.Need-shared-slice-read-result
+shared-slice-read-result c = search needs
+
+returns-4 : tie.Need-returns-4
+returns-4 c = search needs
+
+returns-5 : tie.Need-returns-5
+returns-5 c = search needs
+
+pub is-key-spec : {M : Type 1} → statement M
+is-key-spec =
+    tie.close
+    (tie.spec
+    returns
+    returns-2
+    add-if3
+    returns-3
+    add-key
+    element-copy-out-key
+    key-requires
+    mul-if4
+    shared-slice-read-if4
+    add-result
+    mul-result
+    shared-slice-read-result
+    returns-4
+    returns-5)

@@ -1,0 +1,2 @@
+-- What the replay's tests of an answer decide.
+pub mod Sample
