@@ -234,6 +234,54 @@ static void in_place(void) {
     IS(numbers[DOORSEDGE_GENERATION], own.generation);
 }
 
+/* NULL with length 0: an empty buffer where none is needed, one too short where it is, and tables of no shape. */
+static void null_with_none(void) {
+    two_runs();
+    REFUSED(doorsedge_list(STATE, 1, 1, NULL, 0, out), DOORSEDGE_SHORT);
+    REFUSED(doorsedge_drain(STATE, 1, 1, NULL, 0, out), DOORSEDGE_SHORT);
+    REFUSED(doorsedge_drain_all(STATE, NULL, 0, out), DOORSEDGE_SHORT);
+    REFUSED(doorsedge_compress_canonical(STATE, 0, NULL, 0, out), DOORSEDGE_SHORT);
+    REFUSED(doorsedge_check(head, NULL, 0, shared, SHARED), DOORSEDGE_SHAPE);
+    REFUSED(doorsedge_check(head, elems, ELEMS, NULL, 0), DOORSEDGE_SHAPE);
+    REFUSED(doorsedge_fresh(head, FRAMES, RUNS, NULL, 0, NULL, 0), DOORSEDGE_SHAPE);
+    REFUSED(doorsedge_fresh(head, 0, 0, NULL, 0, NULL, 0), DOORSEDGE_SHAPE);
+    REFUSED(doorsedge_insert_surject(head, NULL, 0, NULL, 0, 1, 2, out), DOORSEDGE_SHAPE);
+    REFUSED(doorsedge_clear(head, NULL, 0, NULL, 0, out), DOORSEDGE_SHAPE);
+    IS(doorsedge_fresh(head, FRAMES, RUNS, elems, ELEMS, shared, SHARED), DOORSEDGE_OK);
+    fill(out, 4);
+    IS(doorsedge_drain_all(STATE, NULL, 0, out), DOORSEDGE_OK);
+    HOLDS(out, 0, UNTOUCHED);
+    HOLDS(head, FRAMES, 0, 0, 0, RUNS, 0, 0, 0, 2);
+}
+
+/* When an old key comes alive again: not by a removal, but by an overflow, by `fresh` and by a compression with reset. */
+static void old_keys(void) {
+    two_runs();
+    IS(doorsedge_remove_element(STATE, 4, 1, out), DOORSEDGE_OK);
+    IS(doorsedge_insert_surject(STATE, 21, 210, out), DOORSEDGE_OK);
+    HOLDS(out, 4, 2);
+    REFUSED(doorsedge_get(STATE, 4, 1, out), DOORSEDGE_DEAD);
+    head[DOORSEDGE_GENERATION] = DOORSEDGE_LAST_GENERATION;
+    IS(doorsedge_remove_element(STATE, 4, 2, out), DOORSEDGE_OK);
+    HOLDS(out, 21, 1, 210, 1);
+    REFUSED(doorsedge_get(STATE, 4, 1, out), DOORSEDGE_DEAD);
+    IS(doorsedge_insert_surject(STATE, 22, 220, out), DOORSEDGE_OK);
+    IS(doorsedge_get(STATE, 4, 1, out), DOORSEDGE_OK);
+    HOLDS(out, 22);
+    head[DOORSEDGE_GENERATION] = 9;
+    IS(doorsedge_remove_element(STATE, 1, 1, out), DOORSEDGE_OK);
+    IS(doorsedge_compress_canonical(STATE, 1, scratch, DOORSEDGE_SCRATCH_LEN(FRAMES), out), DOORSEDGE_OK);
+    IS(doorsedge_get(STATE, 1, 1, out), DOORSEDGE_OK);
+    HOLDS(out, 11);
+    /* drain_all's closing clear goes over the last generation, and only the head shows it */
+    head[DOORSEDGE_GENERATION] = DOORSEDGE_LAST_GENERATION - 3;
+    IS(doorsedge_drain_all(STATE, records, DOORSEDGE_DRAIN_LEN(FRAMES), out), DOORSEDGE_OK);
+    HOLDS(out, 3);
+    for (uint64_t i = 0; i < 3; i++)
+        IS(records[i * DOORSEDGE_RECORD + DOORSEDGE_RECORD_OVERFLOW], 0);
+    IS(head[DOORSEDGE_GENERATION], 1);
+}
+
 int main(void) {
     fresh_and_check();
     reads();
@@ -245,6 +293,8 @@ int main(void) {
     drains();
     clear_and_compress();
     in_place();
+    null_with_none();
+    old_keys();
     printf("host/c/entries: %d of %d as expected\n", tried - failed, tried);
     return failed != 0;
 }
