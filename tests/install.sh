@@ -3,7 +3,6 @@
 # crate's tests, once where DOORSEDGE_PREFIX names the place and once where pkg-config finds it, in a copy without target/.
 set -eu
 cd "$(dirname "$0")/.."
-. tools/need
 place=$(mktemp -d)
 trap 'rm -rf "$place"' EXIT
 prefix=$place/prefix
