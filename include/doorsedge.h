@@ -12,9 +12,9 @@
    aligned as a uint64_t is, and what a call may write must not overlap anything else that it is given. NULL is allowed
    exactly where a length of 0 comes with it: `drain_all` of empty tables takes (NULL, 0) for its records.
 
-   One call at a time. While a call runs, nothing else may read or write what is lent to it: two threads that use one
-   head and its tables need one lock around every call, reads included. And what a call answered holds until the next
-   call: a count that was read before another actor's insert is not the run's count after it.
+   One call at a time may be made on a head and its tables, reads included: nothing here locks, so threads that share
+   them need one lock around every call. And what a call answered holds until the next call: a count that was read
+   before another actor's insert is not the run's count after it.
 
    Refusals. Each entry returns 0 when it accepted, else the number of the refusal. A refused call changes nothing:
    head, tables, buffers and `out` stay as they were. The tests come in the order 1, 2, 3, 4, 6, 5, 7, and each
@@ -27,9 +27,9 @@
        removal raises it by one, so with a thousand a second that comes after 49 days;
      - drain_all overflowed in its closing clear, which no answer says: the head's generation is then 1;
      - `fresh`, or a compression with `reset`: the generation is 1 again.
-   What to do on overflow: before the next frame is put in, forget every key of a frame that is gone; keys of frames
-   that are still there stay good. (A kept key can be tested then: a read gives 3 for a dead one.) After `fresh`,
-   `clear`, `drain_all` and a compression forget all keys from before.
+   After `fresh`, `clear`, `drain_all` and a compression forget all keys from before. What to do on overflow: before the
+   next frame is put in, compress, and forget all keys from before. Or, where keys have to stay, forget those of frames
+   that are gone (a read gives 3 for each), and each of the others as soon as its frame goes: they are good until then.
 
    What a call costs. Anything may stand in the tables, so every call but `fresh` reads both of them whole, up to their
    capacities, before it does its own work; `fresh` writes them whole. That is 4 to 7 ns a slot on the machine of
