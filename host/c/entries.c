@@ -280,6 +280,28 @@ static void old_keys(void) {
     for (uint64_t i = 0; i < 3; i++)
         IS(records[i * DOORSEDGE_RECORD + DOORSEDGE_RECORD_OVERFLOW], 0);
     IS(head[DOORSEDGE_GENERATION], 1);
+    IS(doorsedge_fresh(head, FRAMES, RUNS, elems, ELEMS, shared, SHARED), DOORSEDGE_OK);
+    REFUSED(doorsedge_get(STATE, 1, 1, out), DOORSEDGE_DEAD);
+    IS(doorsedge_insert_surject(STATE, 30, 300, out), DOORSEDGE_OK);
+    IS(doorsedge_get(STATE, 1, 1, out), DOORSEDGE_OK);
+    HOLDS(out, 30);
+}
+
+/* A key from before an overflow, whose frame goes after it: it returns when the generation has come round to it. */
+static void key_over_overflow(void) {
+    IS(doorsedge_fresh(head, FRAMES, RUNS, elems, ELEMS, shared, SHARED), DOORSEDGE_OK);
+    head[DOORSEDGE_GENERATION] = DOORSEDGE_LAST_GENERATION;
+    IS(doorsedge_insert_surject(STATE, 10, 100, out), DOORSEDGE_OK);
+    IS(doorsedge_insert(STATE, 1, DOORSEDGE_LAST_GENERATION, 11, out), DOORSEDGE_OK);
+    IS(doorsedge_remove_element(STATE, 2, DOORSEDGE_LAST_GENERATION, out), DOORSEDGE_OK);
+    HOLDS(out, 11, 0, 0, 1);
+    IS(doorsedge_remove_element(STATE, 1, DOORSEDGE_LAST_GENERATION, out), DOORSEDGE_OK);
+    HOLDS(out, 10, 1, 100, 0);
+    REFUSED(doorsedge_get(STATE, 1, DOORSEDGE_LAST_GENERATION, out), DOORSEDGE_DEAD);
+    head[DOORSEDGE_GENERATION] = DOORSEDGE_LAST_GENERATION; /* so many removals later */
+    IS(doorsedge_insert_surject(STATE, 20, 200, out), DOORSEDGE_OK);
+    IS(doorsedge_get(STATE, 1, DOORSEDGE_LAST_GENERATION, out), DOORSEDGE_OK);
+    HOLDS(out, 20);
 }
 
 int main(void) {
@@ -295,6 +317,7 @@ int main(void) {
     in_place();
     null_with_none();
     old_keys();
+    key_over_overflow();
     printf("host/c/entries: %d of %d as expected\n", tried - failed, tried);
     return failed != 0;
 }
