@@ -45,6 +45,7 @@ pub mod Ascending
 pub mod Blocks
 pub mod Sets
 pub mod Empty
+pub mod Extents
 pub mod Drained
 pub mod Kept
 pub mod Doors
