@@ -106,3 +106,7 @@ earlier Malformed = []
 -- its sentence holds, and that of no earlier number
 abbrev pub Given : State → (lent : List ℕ) → Call → Refusal → Type 0
 Given st lent c r = Sentence st lent (asks st c) r × None (Sentence st lent (asks st c)) (earlier r)
+
+-- and a call is accepted, if no sentence holds
+abbrev pub Accepted : State → (lent : List ℕ) → Call → Type 0
+Accepted st lent c = None (Sentence st lent (asks st c)) (Shape ∷ Unsound ∷ Dead ∷ SameClass ∷ NoShared ∷ NoElement ∷ Short ∷ [])
