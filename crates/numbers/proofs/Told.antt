@@ -6,7 +6,8 @@ use mathlib.Core.List.{List}
 use Rattle.rules.specs.Notation.{if_then_else_, _==_}
 use Rattle.rules.specs.declared.Refusal.{Refusal}
 use Rattle.rules.specs.declared.Refusal.the-variants.{Shape, Unsound, Dead, SameClass, NoElement, NoShared, Short, Malformed}
-use Rattle.rules.specs.Refusals.{numberOf, Said, saidRefused, saidAccepted}
+use Rattle.rules.specs.Refusals.{numberOf, Said, saidAccepted}
+use Rattle.rules.specs.Answers.{saidBeside}
 use Rattle.numbers.specs.Numbers.{Answered}
 
 -- a refused call leaves `out` as it was
@@ -20,8 +21,8 @@ kept NoShared a b = refl
 kept Short a b = refl
 kept Malformed a b = refl
 
-pub refused : (numbers : Said → List ℕ) (said : Said) (r : Refusal) (out : List ℕ) (n : ℕ) → said ≡ saidRefused r → n ≡ numberOf r → Answered numbers said out n out
-refused numbers said r out n p q = record { number = rw p q; out = rw p (kept r (numbers (saidRefused r)) out) }
+pub refused : (numbers : Said → List ℕ) (said : Said) (r : Refusal) (values : List ℕ) (over : Bool) (out : List ℕ) (n : ℕ) → said ≡ saidBeside r values over → n ≡ numberOf r → Answered numbers said out n out
+refused numbers said r values over out n p q = record { number = rw p q; out = rw p (kept r (numbers (saidBeside r values over)) out) }
 
 -- an accepted call writes it
 pub accepted : (numbers : Said → List ℕ) (said : Said) (values : List ℕ) (over : Bool) (out : List ℕ) → said ≡ saidAccepted values over → Answered numbers said out 0 (numbers (saidAccepted values over))
