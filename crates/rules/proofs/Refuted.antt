@@ -12,7 +12,7 @@ use Rattle.rules.specs.declared.Found.{Found}
 use Rattle.rules.specs.declared.Found.the-variants as lookup
 use Rattle.rules.specs.Tables.{frameWidth, frameAt, headerAt, cell, isLive, found, State}
 use Rattle.rules.specs.Refusals.{Outcome}
-use Rattle.rules.specs.Calls.{Call, getElement, union, AtDoor}
+use Rattle.rules.specs.Calls.{Call, getElement, newRun, union, AtDoor}
 use Rattle.rules.specs.History.{History, othersOf, nothing}
 use Rattle.rules.specs.Demand.{After, start, fresh, call, In, Agrees, Union, Demand3}
 use Rattle.rules.proofs.Cases.{rules, key, ok, refused, pool, at, e, s, zeros}
@@ -154,7 +154,7 @@ leads-there a D = in-no-ring (D .rings one (told [] 1 0 1) a)
 pub says-so : After each runs → (lent : List ℕ) → AtDoor each lent (union (key 1 1) (key 2 1)) (ok (200 ∷ 1 ∷ 1 ∷ 2 ∷ []) (after 30 300) []) → Demand3 → ⊥
 says-so a lent d D = other-number (D .unions each runs a lent (key 1 1) (key 2 1) (ok (200 ∷ 1 ∷ 1 ∷ 2 ∷ []) (after 30 300) []) d refl)
 
--- ---- the sequences meant: any tables, fresh in between, refused calls
+-- ---- the sequences meant: from any tables, with fresh in between, and with refused calls
 
 pub begins : After fresh43 nothing
 unfolding rules
@@ -167,6 +167,9 @@ begins-again a = fresh a 4 3
 pub fresh-refused : After one alone → After one alone
 unfolding rules
 fresh-refused a = fresh a 3 3
+
+pub call-accepted : After fresh43 nothing → AtDoor fresh43 [] (newRun 10 100) (ok (1 ∷ 1 ∷ []) one []) → After one alone
+call-accepted a d = call a [] (newRun 10 100) (ok (1 ∷ 1 ∷ []) one []) d
 
 pub call-refused : After one alone → AtDoor one [] (getElement (key 2 1)) (refused 3 one []) → After one alone
 call-refused a d = call a [] (getElement (key 2 1)) (refused 3 one []) d
