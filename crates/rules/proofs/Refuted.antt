@@ -123,6 +123,30 @@ pub not-rewritten : Claimed (ok (200 ∷ 1 ∷ 1 ∷ 0 ∷ []) each []) → ⊥
 unfolding cell othersOf
 not-rewritten U = let z : _≡_ {A = ℕ} 0 1 = U .smaller in omega arith
 
+-- the larger run is rewritten, whichever key is its
+abbrev unlike : State
+unlike =
+    at (pool 3 3 0 3) (pool 2 2 0 2) 1
+    (e 1 10 1 2 2 ++ e 1 11 1 1 1 ++ e 1 20 2 3 3)
+    (s 2 100 0 ++ s 1 200 0)
+
+abbrev unlikeRuns : History
+unlikeRuns = told ((key 1 1 ∷ key 2 1 ∷ []) ∷ (key 3 1 ∷ []) ∷ []) 3 0 1
+
+abbrev intoSmaller : State
+intoSmaller =
+    at (pool 3 3 0 3) (pool 2 2 1 1) 1
+    (e 1 10 2 2 3 ++ e 1 11 2 3 1 ++ e 1 20 2 1 2)
+    (s 0 0 0 ++ s 3 200 0)
+
+pub larger-first : Union unlike unlikeRuns (key 1 1) (key 3 1) (ok (100 ∷ 3 ∷ 1 ∷ 2 ∷ []) intoSmaller []) → ⊥
+unfolding cell othersOf
+larger-first U = let z : _≡_ {A = ℕ} 2 1 = U .smaller in omega arith
+
+pub larger-second : Union unlike unlikeRuns (key 3 1) (key 1 1) (ok (100 ∷ 3 ∷ 1 ∷ 2 ∷ []) intoSmaller []) → ⊥
+unfolding cell othersOf
+larger-second U = let z : _≡_ {A = ℕ} 2 1 = U .smaller in omega arith
+
 -- another number is answered
 pub other-number : Claimed (ok (200 ∷ 1 ∷ 1 ∷ 2 ∷ []) (after 30 300) []) → ⊥
 unfolding cell
