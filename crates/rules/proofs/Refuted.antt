@@ -1,4 +1,4 @@
--- Demand 3, claim by claim: for each, a state and history that breaks it, and but for the last of the walk it alone; for a union, an outcome; and what the demand then rules out.
+-- Demand 3, claim by claim: for each, a state and history that breaks it alone; for a union, an outcome; then what the demand rules out, and the sequences that it is about.
 use Prim.Native.Nat.{ℕ}
 use native.Mathlib.Omega.{arith}
 use mathlib.Core.Path.{_≡_, refl, ap}
