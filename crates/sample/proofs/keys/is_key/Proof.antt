@@ -1,6 +1,9 @@
+use Rattle.rules.specs.declared.Key.{Key}
+use native.Mathlib.Omega.{arith}
+use mathlib.Core.Path.{ap}
 use borrow.Author.Needs.{needs}
-use Rattle.replay.proofs.answers.is_key.Statement.{statement}
-use Rattle.replay.proofs.answers.is_key.Tie as tie
+use Rattle.sample.proofs.keys.is_key.Statement.{statement}
+use Rattle.sample.proofs.keys.is_key.Tie as tie
 
 returns : tie.Need-returns
 returns c = search needs
@@ -29,20 +32,23 @@ mul-if4 c = search needs
 shared-slice-read-if4 : tie.Need-shared-slice-read-if4
 shared-slice-read-if4 c = search needs
 
-add-result : tie.Need-add-result
-add-result c = search needs
-
-mul-result : tie.Need-mul-result
-mul-result c = search needs
-
-shared-slice-read-result : tie.Need-shared-slice-read-result
-shared-slice-read-result c = search needs
-
 returns-4 : tie.Need-returns-4
 returns-4 c = search needs
 
+add-if5 : tie.Need-add-if5
+add-if5 c = search needs
+
+mul-if5 : tie.Need-mul-if5
+mul-if5 c = search needs
+
+shared-slice-read-if5 : tie.Need-shared-slice-read-if5
+shared-slice-read-if5 c = search needs
+
 returns-5 : tie.Need-returns-5
 returns-5 c = search needs
+
+returns-6 : tie.Need-returns-6
+returns-6 c = record { slot = omega (arith, c .before .before .before .if4 .left, ap (λ (k : Key). k .slot) (c .before .before .before .before .before .before .key .ensures)); generation = omega (arith, c .if5 .left, ap (λ (k : Key). k .generation) (c .before .before .before .before .before .before .key .ensures)) }
 
 pub is-key-spec : {M : Type 1} → statement M
 is-key-spec =
@@ -57,8 +63,9 @@ is-key-spec =
     key-requires
     mul-if4
     shared-slice-read-if4
-    add-result
-    mul-result
-    shared-slice-read-result
     returns-4
-    returns-5)
+    add-if5
+    mul-if5
+    shared-slice-read-if5
+    returns-5
+    returns-6)
