@@ -25,16 +25,16 @@ module _ (c : Call) (numbers : Said → List ℕ) (head elems shared lent out : 
   }
 
 -- the same of fresh
-pub freshened : (capacity classes : ℕ) (head elems shared : List ℕ) (h next : Head) (said : Said) (r : ℕ) (packed elems′ shared′ : List ℕ)
+pub freshened : (elemCapacity sharedCapacity : ℕ) (head elems shared : List ℕ) (h next : Head) (said : Said) (r : ℕ) (packed elems′ shared′ : List ℕ)
     → h ≡ headOf head
-    → leaves next elems′ shared′ [] said ≡ freshStep (stateOf h elems shared) capacity classes
+    → leaves next elems′ shared′ [] said ≡ freshStep (stateOf h elems shared) elemCapacity sharedCapacity
     → headOf packed ≡ next
     → Answered values said [] r []
-    → AtFresh capacity classes head elems shared (left r packed elems′ shared′ [] [])
-freshened capacity classes head elems shared h next said r packed elems′ shared′ p d q a =
+    → AtFresh elemCapacity sharedCapacity head elems shared (left r packed elems′ shared′ [] [])
+freshened elemCapacity sharedCapacity head elems shared h next said r packed elems′ shared′ p d q a =
     let told : left r packed elems′ shared′ [] [] ≡ shown values [] (leaves next elems′ shared′ [] said) =
     λ i. record { number = a .number i; state = stateOf (q i) elems′ shared′; lent = []; out = a .out i } in
-    record { same = told ∙ ap (shown values []) (d ∙ ap (λ (k : Head). freshStep (stateOf k elems shared) capacity classes) p) }
+    record { same = told ∙ ap (shown values []) (d ∙ ap (λ (k : Head). freshStep (stateOf k elems shared) elemCapacity sharedCapacity) p) }
 
 -- the same of an entry whose head is lent in place
 pub held : (c : Call) (numbers : Said → List ℕ) (head : Head) (elems shared out : List ℕ) (next : Head) (said : Said) (r : ℕ) (elems′ shared′ out′ : List ℕ)
