@@ -1,5 +1,5 @@
 pub mod Kit
 pub mod Only
 pub mod Sequences
-pub mod Worked
+pub mod HostRows
 pub mod Played

@@ -4,7 +4,6 @@ use mathlib.Core.Path.{_≡_, sym, ap, _∙_}
 use mathlib.Core.List.{List, []}
 use lib.ListN.{length}
 use Rattle.rules.specs.declared.Head.{Head}
-use Rattle.rules.specs.Tables.{stateOf}
 use Rattle.rules.specs.Refusals.{Said}
 use Rattle.rules.specs.Calls.{Call}
 use Rattle.rules.proofs.Door
@@ -22,22 +21,28 @@ pub record Same {H : Type 0} (r r′ : ℕ) (h h′ : H) (e e′ s s′ l l′ o
   pub out : o ≡ o′
 
 -- what is left tells each of them
-module _ (r r′ : ℕ) (e e′ s s′ l l′ o o′ : List ℕ) where
-  told : (h h′ : Head) → _≡_ {A = Left} (record { number = r; state = stateOf h e s; lent = l; out = o }) (record { number = r′; state = stateOf h′ e′ s′; lent = l′; out = o′ }) → Same r r′ h h′ e e′ s s′ l l′ o o′
-  told h h′ q = record {
-    result = ap (λ (t : Left). t .number) q;
-    head = ap (λ (t : Left). t .state .head) q;
-    elems = ap (λ (t : Left). t .state .elems) q;
-    shared = ap (λ (t : Left). t .state .shared) q;
-    lent = ap (λ (t : Left). t .lent) q;
-    out = ap (λ (t : Left). t .out) q;
-  }
+told : (a b : Left) → a ≡ b → Same (a .number) (b .number) (a .state .head) (b .state .head) (a .state .elems) (b .state .elems) (a .state .shared) (b .state .shared) (a .lent) (b .lent) (a .out) (b .out)
+told a b q = record {
+  result = ap (λ (t : Left). t .number) q;
+  head = ap (λ (t : Left). t .state .head) q;
+  elems = ap (λ (t : Left). t .state .elems) q;
+  shared = ap (λ (t : Left). t .state .shared) q;
+  lent = ap (λ (t : Left). t .lent) q;
+  out = ap (λ (t : Left). t .out) q;
+}
 
-  -- and of a head of nine numbers, each of the nine
-  told-nine : (h h′ : List ℕ) → length h ≡ 9 → length h′ ≡ 9 → left r h e s l o ≡ left r′ h′ e′ s′ l′ o′ → Same r r′ h h′ e e′ s s′ l l′ o o′
-  told-nine h h′ n n′ q =
-      let t = told _ _ q in
-      record { result = t .result; head = only-nine h h′ n n′ (t .head); elems = t .elems; shared = t .shared; lent = t .lent; out = t .out }
+-- and each of the nine numbers of a head
+told-nine : (r r′ : ℕ) (h h′ e e′ s s′ l l′ o o′ : List ℕ) → length h ≡ 9 → length h′ ≡ 9 → left r h e s l o ≡ left r′ h′ e′ s′ l′ o′ → Same r r′ h h′ e e′ s s′ l l′ o o′
+told-nine r r′ h h′ e e′ s s′ l l′ o o′ n n′ q =
+    let t = told (left r h e s l o) (left r′ h′ e′ s′ l′ o′) q in
+    record {
+      result = t .result;
+      head = only-nine h h′ n n′ (t .head);
+      elems = t .elems;
+      shared = t .shared;
+      lent = t .lent;
+      out = t .out;
+    }
 
 -- an entry over a head of nine numbers
 module _ (c : Call) (numbers : Said → List ℕ) (head elems shared lent out : List ℕ) where
@@ -48,14 +53,14 @@ module _ (c : Call) (numbers : Said → List ℕ) (head elems shared lent out : 
       → AtHost c numbers head elems shared lent out (left r h e s l o)
       → AtHost c numbers head elems shared lent out (left r′ h′ e′ s′ l′ o′)
       → Same r r′ h h′ e e′ s s′ l l′ o o′
-  only-at-host r r′ h h′ e e′ s s′ l l′ o o′ n n′ p q = told-nine r r′ e e′ s s′ l l′ o o′ h h′ n n′ (only _ _ p q)
+  only-at-host r r′ h h′ e e′ s s′ l l′ o o′ n n′ p q = told-nine r r′ h h′ e e′ s s′ l l′ o o′ n n′ (only _ _ p q)
 
 -- fresh, which has no buffer and no `out`
 pub only-at-fresh : (elemCapacity sharedCapacity : ℕ) (head elems shared : List ℕ) (r r′ : ℕ) (h h′ e e′ s s′ l l′ o o′ : List ℕ) → length h ≡ 9 → length h′ ≡ 9
     → AtFresh elemCapacity sharedCapacity head elems shared (left r h e s l o)
     → AtFresh elemCapacity sharedCapacity head elems shared (left r′ h′ e′ s′ l′ o′)
     → Same r r′ h h′ e e′ s s′ l l′ o o′
-only-at-fresh elemCapacity sharedCapacity head elems shared r r′ h h′ e e′ s s′ l l′ o o′ n n′ p q = told-nine r r′ e e′ s s′ l l′ o o′ h h′ n n′ (p .same ∙ sym (q .same))
+only-at-fresh elemCapacity sharedCapacity head elems shared r r′ h h′ e e′ s s′ l l′ o o′ n n′ p q = told-nine r r′ h h′ e e′ s s′ l l′ o o′ n n′ (p .same ∙ sym (q .same))
 
 -- an entry over a head lent in place, which has no buffer
 pub only-at-head : (c : Call) (numbers : Said → List ℕ) (head : Head) (elems shared out : List ℕ) (r r′ : ℕ) (h h′ : Head) (e e′ s s′ o o′ : List ℕ)
@@ -63,5 +68,5 @@ pub only-at-head : (c : Call) (numbers : Said → List ℕ) (head : Head) (elems
     → AtHead c numbers head elems shared out (leftAt r′ h′ e′ s′ o′)
     → Same r r′ h h′ e e′ s s′ [] [] o o′
 only-at-head c numbers head elems shared out r r′ h h′ e e′ s s′ o o′ p q =
-    told r r′ e e′ s s′ [] [] o o′ h h′
+    told (leftAt r h e s o) (leftAt r′ h′ e′ s′ o′)
     (p .same ∙ ap (shown numbers out) (Door.only _ [] c (p .outcome) (q .outcome) (p .door) (q .door)) ∙ sym (q .same))

@@ -20,7 +20,7 @@ use Rattle.rules.proofs.laws.Rulings.{by-test, by-key}
 use Rattle.rules.proofs.laws.DemandThree
 use Rattle.numbers.specs.Numbers.{headOf, values}
 use Rattle.numbers.proofs.Nine.{nineOf, head-of-nine}
-use Rattle.host.specs.Host.{Left, left, shown, AtHost, AtFresh}
+use Rattle.host.specs.Host.{Left, left, shown, AtHost}
 use Rattle.host.specs.InPlace.{leftAt, AtHead}
 use Rattle.host.specs.Sequence.{numbersOf, heard, lentState, AfterEntries, begun, freshened, called, calledInPlace, Demand3AtHost}
 

@@ -5,7 +5,7 @@ use mathlib.Core.Bool.{false}
 use mathlib.Core.List.{List, []}
 use Rattle.rules.specs.declared.Key.{Key}
 use Rattle.rules.specs.Tables.{State, stateOf}
-use Rattle.rules.specs.Refusals.{Said, Outcome}
+use Rattle.rules.specs.Refusals.{Said}
 use Rattle.rules.specs.Calls.{Call, lenSurject, inSameSurject, getElement, getShared, setElement, setShared, check, newRun, insert, union, remove, removeShared, list, drain, drainAll, clear, exchange, compress}
 use Rattle.rules.specs.History.{History, noted, notedFresh, nothing}
 use Rattle.rules.specs.Demand.{Agrees, Union}

@@ -2,16 +2,16 @@
 use Prim.Native.Nat.{ℕ}
 use mathlib.Core.Path.{_≡_, refl}
 use mathlib.Core.Bool.{true, false}
-use mathlib.Core.List.{List, [], _∷_, _++_, map}
+use mathlib.Core.List.{List, [], _∷_, map}
 use lib.ListN.{replicate}
 use Rattle.rules.specs.declared.Head.{Head}
-use Rattle.rules.specs.Tables.{stateOf}
 use Rattle.rules.specs.Refusals.{Said, Outcome}
+use Rattle.rules.specs.Calls.{Call, lenSurject, inSameSurject, getElement, getShared, setElement, setShared, check, newRun, insert, union, remove, removeShared, list, drain, drainAll, clear, exchange, compress}
 use Rattle.rules.proofs.Cases.{key, pool}
 use Rattle.numbers.specs.Numbers.{headOf, values, valuesOver, removalNumbers}
 use Rattle.host.specs.Host.{keyOf, keysOf, isSet, Left, left, shown}
 use Rattle.host.specs.InPlace.{leftAt}
-use Rattle.host.specs.Sequence.{heard, lentState}
+use Rattle.host.specs.Sequence.{numbersOf, heard, lentState}
 
 -- a key's slot, then its generation; four keys one after another
 one-key : keyOf 5 7 ≡ record { slot = 5; generation = 7 }
@@ -61,3 +61,21 @@ shows-refused = refl
 -- what the host is told of it
 hears : heard 3 (51 ∷ 52 ∷ []) ≡ record { number = 3; values = 51 ∷ 52 ∷ []; over = false }
 hears = refl
+
+-- which entries tell a removal's numbers, which the overflow mark behind the values, and which the values alone
+abbrev told : List Call → List (List ℕ)
+told cs = map (λ c. numbersOf c (outcomeOf 0 .said)) cs
+
+tells-removal : told (remove (key 5 7) ∷ []) ≡ (61 ∷ 1 ∷ 62 ∷ 1 ∷ []) ∷ []
+tells-removal = refl
+
+tells-over : told (removeShared (key 5 7) ∷ clear ∷ compress true ∷ []) ≡ replicate 3 (61 ∷ 62 ∷ 1 ∷ [])
+tells-over = refl
+
+abbrev plain : List Call
+plain =
+    newRun 1 2 ∷ insert (key 5 7) 1 ∷ union (key 5 7) (key 6 8) ∷ drain (key 5 7) ∷ drainAll ∷ list (key 5 7) ∷ lenSurject (key 5 7) ∷ inSameSurject (key 5 7) (key 6 8) ∷
+    getElement (key 5 7) ∷ getShared (key 5 7) ∷ setElement (key 5 7) 1 ∷ setShared (key 5 7) 2 ∷ exchange [] [] ∷ check ∷ []
+
+tells-values : told plain ≡ replicate 14 (61 ∷ 62 ∷ [])
+tells-values = refl

@@ -5,7 +5,7 @@ use mathlib.Core.Bool.{Bool, true, false}
 use mathlib.Core.List.{List, [], _∷_, map}
 use Rattle.rules.specs.declared.Head.{Head}
 use Rattle.rules.specs.Refusals.{Said}
-use Rattle.numbers.specs.Numbers.{headOf, flag, values, valuesOver, removal, removalNumbers, Answered}
+use Rattle.numbers.specs.Numbers.{headOf, values, valuesOver, removalNumbers, Answered}
 use Rattle.numbers.proofs.Nine.{nineOf}
 
 -- the lent head (docs/LAYOUT.md)
