@@ -58,19 +58,19 @@ module _ (c : Call) (numbers : Said → List ℕ) (head elems shared lent out : 
       a
 
 -- the same of fresh
-pub freshened : (capacity classes : ℕ) (head elems shared : List ℕ) (h next : Head) (said : Said) (r : ℕ) (after elems′ shared′ : List ℕ)
+pub freshened : (elemCapacity sharedCapacity : ℕ) (head elems shared : List ℕ) (h next : Head) (said : Said) (r : ℕ) (after elems′ shared′ : List ℕ)
     → h ≡ headOf head
-    → leaves next elems′ shared′ [] said ≡ freshStep (stateOf h elems shared) capacity classes
+    → leaves next elems′ shared′ [] said ≡ freshStep (stateOf h elems shared) elemCapacity sharedCapacity
     → Answered values said [] r []
     → headOf after ≡ (if r == 0 then next else headOf head)
-    → AtFresh capacity classes head elems shared (left r after elems′ shared′ [] [])
-freshened capacity classes head elems shared h next said r after elems′ shared′ p d a q =
+    → AtFresh elemCapacity sharedCapacity head elems shared (left r after elems′ shared′ [] [])
+freshened elemCapacity sharedCapacity head elems shared h next said r after elems′ shared′ p d a q =
     let unchanged : r ≢ 0 → next ≡ headOf head =
-    λ n. ap (λ (o : Outcome). o .state .head) d ∙ ap (λ (st : State). st .head) (refused-fresh (stateOf h elems shared) capacity classes (λ e. n (a .number ∙ (ap (λ (o : Outcome). o .said .number) d ∙ e))) .state) ∙ p in
+    λ n. ap (λ (o : Outcome). o .state .head) d ∙ ap (λ (st : State). st .head) (refused-fresh (stateOf h elems shared) elemCapacity sharedCapacity (λ e. n (a .number ∙ (ap (λ (o : Outcome). o .said .number) d ∙ e))) .state) ∙ p in
     let same : headOf after ≡ next = q ∙ kept r next (headOf head) unchanged in
     let told : left r after elems′ shared′ [] [] ≡ shown values [] (leaves next elems′ shared′ [] said) =
     λ i. record { number = a .number i; state = stateOf (same i) elems′ shared′; lent = []; out = a .out i } in
-    record { same = told ∙ ap (shown values []) (d ∙ ap (λ (k : Head). freshStep (stateOf k elems shared) capacity classes) p) }
+    record { same = told ∙ ap (shown values []) (d ∙ ap (λ (k : Head). freshStep (stateOf k elems shared) elemCapacity sharedCapacity) p) }
 
 -- the same of an entry whose head is lent in place
 pub held : (c : Call) (numbers : Said → List ℕ) (head : Head) (elems shared out : List ℕ) (next : Head) (said : Said) (r : ℕ) (elems′ shared′ out′ : List ℕ)

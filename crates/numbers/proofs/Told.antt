@@ -1,6 +1,6 @@
 -- An answer that is refused, and one that is accepted, as numbers.
 use Prim.Native.Nat.{ℕ}
-use mathlib.Core.Path.{_≡_, refl}
+use mathlib.Core.Path.{_≡_, refl, sym, _∙_}
 use mathlib.Core.Bool.{Bool}
 use mathlib.Core.List.{List}
 use Rattle.rules.specs.Notation.{if_then_else_, _==_}
@@ -27,3 +27,7 @@ refused numbers said r values over out n p q = record { number = rw p q; out = r
 -- an accepted call writes it
 pub accepted : (numbers : Said → List ℕ) (said : Said) (values : List ℕ) (over : Bool) (out : List ℕ) → said ≡ saidAccepted values over → Answered numbers said out 0 (numbers (saidAccepted values over))
 accepted numbers said values over out p = record { number = rw p; out = rw p }
+
+-- no second result and `out` fit
+pub only : (numbers : Said → List ℕ) (said : Said) (before : List ℕ) (r r′ : ℕ) (out out′ : List ℕ) → Answered numbers said before r out → Answered numbers said before r′ out′ → (r ≡ r′) × (out ≡ out′)
+only numbers said before r r′ out out′ a b = (a .number ∙ sym (b .number), a .out ∙ sym (b .out))
