@@ -43,7 +43,8 @@ all-header : (st : State) (c f : ℕ) → f < headerWidth → nextFreeOf (st .sh
 all-header st c zero h e = refl
 all-header st c (suc zero) h e = refl
 all-header st c (suc (suc zero)) h e = e
-all-header st c (suc (suc (suc f))) h e = absurd (omega arith)
+all-header st c (suc (suc (suc zero))) h e = refl
+all-header st c (suc (suc (suc (suc f)))) h e = absurd (omega arith)
 
 module _ (st : State) (R : Ready st) (sc₀ : List ℕ) (g : ℕ) (e₁ sc₁ : List ℕ) (G : Regrouped st sc₀ g e₁ sc₁) where
   abbrev v : View

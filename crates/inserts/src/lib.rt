@@ -83,7 +83,7 @@ fn insert_at(head: Head, elems: &mut [u64], shared: &mut [u64], x: u64, payload:
     next
 }
 
-// Rules 5, insert.
+// Rules 5, insert; at a sealed run Ticket 1's refusal.
 pub fn insert(
     head: Head,
     elems: &mut [u64],
@@ -100,6 +100,12 @@ pub fn insert(
             answer: Inserted::Refused(Refusal::Dead),
         };
     };
+    if slots::is_sealed(head, elems, shared, x) {
+        return HeadInserted {
+            head,
+            answer: Inserted::Refused(Refusal::Sealed),
+        };
+    }
     let frames = head.elems;
     if frames.is_full() {
         return HeadInserted {

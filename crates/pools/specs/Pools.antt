@@ -6,7 +6,7 @@ use mathlib.Core.List.{List}
 use Prim.Native.Nat.{ℕ, _+_, _*_, _≤_, _<_}
 use lib.ListN.{length, getD}
 use Rattle.rules.specs.declared.Pool.{Pool}
-use Rattle.rules.specs.Tables.{mostSlots, cell, countOf, valueOf, nextFreeOf}
+use Rattle.rules.specs.Tables.{mostSlots, cell, countOf, valueOf, nextFreeOf, markOf}
 use Rattle.rules.proofs.laws.Pools.{lives}
 use Rattle.rules.proofs.laws.Chains.{Linked}
 
@@ -30,10 +30,11 @@ pub record PoolOk (p : Pool) (width link : ℕ) (t : List ℕ) : Type 0 where
   pub zeros : Zeros t (p .extent * width)
   pub chain : Linked (cell width t 0) (cell width t link) (p .extent) (p .extent) (p .root)
 
--- Sound 6 of a shared slot; and of all, with Sound 3
+-- Sound 6 and Ticket 1 of a shared slot; and of all, with Sound 3
 pub record HeaderOk (s : List ℕ) (c : ℕ) : Type 0 where
   pub free : countOf s c ≡ 0 → valueOf s c ≡ 0
   pub live : countOf s c ≢ 0 → nextFreeOf s c ≡ 0
+  pub mark : (markOf s c ≤ 1) × (markOf s c ≤ countOf s c)
 
 pub record Headers (s : List ℕ) (m live : ℕ) : Type 0 where
   pub slots : (c : ℕ) → c < m → HeaderOk s (c + 1)

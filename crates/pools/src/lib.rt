@@ -1,6 +1,7 @@
 // The soundness check of one table: its extent, its free chain, zeros past the extent; and the shared slots.
 use rules::COUNT;
 use rules::HEADER;
+use rules::MARK;
 use rules::NEXT_FREE;
 use rules::Pool;
 use rules::VALUE;
@@ -70,7 +71,7 @@ pub fn pool_ok(p: Pool, t: &[u64], width: u64, link: u64) -> bool
     true
 }
 
-// Sound 3 and 6 of the shared slots.
+// Sound 3 and 6 of the shared slots, and Ticket 1 of their marks.
 pub fn headers_ok(s: &[u64], extent: u64, live: u64) -> bool
     requires { ⌜ extent * headerWidth ≤ length (now s) ⌝ }
     ensures { λ r. ⌜ Is (Headers (now (s .entry)) extent live) r ⌝ }
@@ -80,7 +81,16 @@ pub fn headers_ok(s: &[u64], extent: u64, live: u64) -> bool
     while i < extent {
         let c = i + 1;
         i = c;
-        if slots::get(s, HEADER, COUNT, c) == 0 {
+        let count = slots::get(s, HEADER, COUNT, c);
+        let mark = slots::get(s, HEADER, MARK, c);
+        if 1 < mark {
+            return false;
+        }
+        // so it is 0 on a free slot
+        if count < mark {
+            return false;
+        }
+        if count == 0 {
             if slots::get(s, HEADER, VALUE, c) != 0 {
                 return false;
             }

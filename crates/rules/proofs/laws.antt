@@ -4,6 +4,7 @@ pub mod Safe
 pub mod Lists
 pub mod Pools
 pub mod Count
+pub mod Marked
 pub mod Working
 pub mod Links
 pub mod Tests
@@ -16,6 +17,8 @@ pub mod Rep
 pub mod Sums
 pub mod Classes
 pub mod Headers
+pub mod Steady
+pub mod Seals
 pub mod Good
 pub mod Refused
 pub mod Rulings
@@ -23,6 +26,8 @@ pub mod Follows
 pub mod Histories
 pub mod EveryCall
 pub mod DemandThree
+pub mod Closed
+pub mod Sealing
 pub mod UnionFrame
 pub mod Search
 pub mod Steps
@@ -47,5 +52,6 @@ pub mod Sets
 pub mod Empty
 pub mod Extents
 pub mod Drained
+pub mod Sealed
 pub mod Kept
 pub mod Doors

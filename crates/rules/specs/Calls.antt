@@ -11,12 +11,13 @@ use Rattle.rules.specs.Reads
 use Rattle.rules.specs.Slots
 use Rattle.rules.specs.Runs
 use Rattle.rules.specs.Drains
+use Rattle.rules.specs.Seals
 use Rattle.rules.specs.Exchange
 use Rattle.rules.specs.Compress
 
--- Rules 1 and 4 to 14
+-- Rules 1 and 4 to 14, and Ticket 1
 pub data Call : Type 0 where
-  lenSurject getElement getShared remove removeShared list drain : Key → Call
+  lenSurject getElement getShared remove removeShared list drain seal : Key → Call
   inSameSurject union : (j k : Key) → Call
   setElement insert : Key → (payload : ℕ) → Call
   setShared : Key → (value : ℕ) → Call
@@ -40,6 +41,7 @@ ruling st lent (remove k) = Runs.remove st k
 ruling st lent (removeShared k) = Drains.removeShared st k
 ruling st lent (list k) = Drains.list st lent k
 ruling st lent (drain k) = Drains.drain st lent k
+ruling st lent (seal k) = Seals.seal st lent k
 ruling st lent drainAll = Drains.drainAll st lent
 ruling st lent clear = Drains.clear st
 ruling st lent (exchange keys values) = Exchange.exchange st keys values

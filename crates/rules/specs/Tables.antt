@@ -55,12 +55,12 @@ previousOf e = cell frameWidth e (frameAt .previous)
 abbrev pub nextOf : List ℕ → (slot : ℕ) → ℕ
 nextOf e = cell frameWidth e (frameAt .next)
 
--- Tables 2: a shared slot's fields, in this order (docs/LAYOUT.md)
+-- Tables 2 and Ticket 1: a shared slot's fields, in this order (docs/LAYOUT.md)
 abbrev pub headerWidth : ℕ
-headerWidth = 3
+headerWidth = 4
 
-abbrev pub headerAt : record { count : ℕ; value : ℕ; nextFree : ℕ }
-headerAt = record { count = 0; value = 1; nextFree = 2 }
+abbrev pub headerAt : record { count : ℕ; value : ℕ; nextFree : ℕ; mark : ℕ }
+headerAt = record { count = 0; value = 1; nextFree = 2; mark = 3 }
 
 abbrev pub countOf : List ℕ → (class : ℕ) → ℕ
 countOf s = cell headerWidth s (headerAt .count)
@@ -70,6 +70,9 @@ valueOf s = cell headerWidth s (headerAt .value)
 
 abbrev pub nextFreeOf : List ℕ → (class : ℕ) → ℕ
 nextFreeOf s = cell headerWidth s (headerAt .nextFree)
+
+abbrev pub markOf : List ℕ → (class : ℕ) → ℕ
+markOf s = cell headerWidth s (headerAt .mark)
 
 -- Tables 3: the head, with both tables
 pub record State : Type 0 where
@@ -134,3 +137,7 @@ keyAt st s = record { slot = s; generation = generationOf (st .elems) s }
 -- the number of frames in the class of the frame in a slot
 abbrev pub sizeAt : State → (slot : ℕ) → ℕ
 sizeAt st s = countOf (st .shared) (classOf (st .elems) s)
+
+-- Ticket 1: the run of the frame in a slot is sealed
+abbrev pub isSealed : State → (slot : ℕ) → Bool
+isSealed st s = markOf (st .shared) (classOf (st .elems) s) == 1

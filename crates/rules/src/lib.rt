@@ -9,7 +9,7 @@ ghost use Rattle.rules.specs.Slots.{slotOf, isFull, freed, raised};
 // Numbers to an element slot and to a shared slot (docs/LAYOUT.md); in the rules, frameWidth and headerWidth.
 pub const FRAME: u64 = 5;
 
-pub const HEADER: u64 = 3;
+pub const HEADER: u64 = 4;
 
 // Tables 1: the fields of an element slot; in the rules, frameAt.
 pub const GENERATION: u64 = 0;
@@ -28,6 +28,8 @@ pub const COUNT: u64 = 0;
 pub const VALUE: u64 = 1;
 
 pub const NEXT_FREE: u64 = 2;
+
+pub const MARK: u64 = 3;
 
 // Tables 3: in the rules, lastGeneration.
 pub const LAST_GENERATION: u64 = 4294967295;
@@ -197,7 +199,7 @@ pub struct Key {
     pub generation: u64,
 }
 
-// Numbers given on refusal, 1 to 8 in this order.
+// Numbers given on refusal, 1 to 8 in this order, and 12.
 pub enum Refusal {
     Shape,
     Unsound,
@@ -207,6 +209,7 @@ pub enum Refusal {
     NoShared,
     Short,
     Malformed,
+    Sealed,
 }
 
 // What looking up a key finds: its slot, or nothing live.
@@ -243,6 +246,12 @@ pub enum Inserted {
 // The answer of union: the removed shared value, the kept class's key, the class entries rewritten.
 pub enum Joined {
     Into { was: u64, kept: Key, moved: u64 },
+    Refused(Refusal),
+}
+
+// The answer of seal: the header's value and count.
+pub enum Seal {
+    Is { value: u64, count: u64 },
     Refused(Refusal),
 }
 

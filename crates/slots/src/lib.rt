@@ -7,6 +7,7 @@ use rules::GENERATION;
 use rules::HEADER;
 use rules::Head;
 use rules::Key;
+use rules::MARK;
 use rules::NEXT;
 use rules::NEXT_FREE;
 use rules::PAYLOAD;
@@ -16,10 +17,10 @@ ghost use mathlib.Core.Path.{_≡_};
 ghost use mathlib.Core.List.{List, [], _∷_};
 ghost use Prim.Native.Nat.{ℕ, _+_, _*_, _≤_, _<_};
 ghost use lib.ListN.{length};
-ghost use Rattle.rules.specs.Tables.{frameWidth, headerWidth, cell, put, row, stateOf, withPools, elemSide, sharedSide, previousOf, nextOf, classOf};
+ghost use Rattle.rules.specs.Tables.{frameWidth, headerWidth, cell, put, row, stateOf, withPools, elemSide, sharedSide, previousOf, nextOf, classOf, isSealed};
 ghost use Rattle.rules.specs.Slots.{taken, freeElement, freeShared};
 ghost use Rattle.rules.specs.Runs.{frame, linked, exchanged, rewritten};
-ghost use Rattle.slots.specs.Asked.{Within, Cell, Takes, Next, Between, Along};
+ghost use Rattle.slots.specs.Asked.{Within, Cell, Takes, Next, Between, Along, OnLive};
 ghost use Rattle.slots.specs.Answered.{Looks, spliced};
 
 // A field of a slot.
@@ -57,14 +58,15 @@ pub fn write_frame(
     put(e, FRAME, slot, NEXT, next);
 }
 
-// All fields of a shared slot.
+// All fields of a shared slot, whose run is not sealed.
 pub fn write_header(s: &mut [u64], slot: u64, count: u64, value: u64, next: u64)
     requires { ⌜ Within headerWidth (now s) slot ⌝ }
-    ensures { λ r. ⌜ now (s .exit) ≡ row headerWidth (now (s .entry)) slot (count ∷ value ∷ next ∷ []) ⌝ }
+    ensures { λ r. ⌜ now (s .exit) ≡ row headerWidth (now (s .entry)) slot (count ∷ value ∷ next ∷ 0 ∷ []) ⌝ }
 {
     put(s, HEADER, slot, COUNT, count);
     put(s, HEADER, slot, VALUE, value);
     put(s, HEADER, slot, NEXT_FREE, next);
+    put(s, HEADER, slot, MARK, 0);
 }
 
 // Rules 3, taking an element slot.
@@ -131,6 +133,16 @@ pub fn find(head: Head, elems: &[u64], key: Key) -> Found
         return Found::Live(slot);
     }
     Found::Dead
+}
+
+// Ticket 1: the run of the frame in a live slot is sealed.
+pub fn is_sealed(head: Head, elems: &[u64], shared: &[u64], x: u64) -> bool
+    requires { ⌜ OnLive (stateOf head (now elems) (now shared)) x ⌝ }
+    ensures { λ r. ⌜ isSealed (stateOf head (now (elems .entry)) (now (shared .entry))) x ≡ r ⌝ }
+{
+    let class = get(elems, FRAME, CLASS, x);
+    let mark = get(shared, HEADER, MARK, class);
+    mark == 1
 }
 
 // Rules 6 and 7: the slot `b` stands immediately after `a`.

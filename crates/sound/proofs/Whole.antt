@@ -6,7 +6,7 @@ use Prim.Native.Nat.{ℕ, zero, suc, _+_, _-_, _*_, _≤_, _<_}
 use native.Mathlib.Omega.{arith}
 use native.Mathlib.Decide.{ℕ-discrete, decLt}
 use lib.ListN.{length}
-use Rattle.rules.specs.Tables.{lastGeneration, frameWidth, headerWidth, frameAt, headerAt, cell, generationOf, payloadOf, classOf, previousOf, nextOf, countOf, valueOf, nextFreeOf, State}
+use Rattle.rules.specs.Tables.{lastGeneration, frameWidth, headerWidth, frameAt, headerAt, cell, generationOf, payloadOf, classOf, previousOf, nextOf, countOf, valueOf, nextFreeOf, markOf, State}
 use Rattle.rules.proofs.laws.Columns.{cell-none}
 use Rattle.rules.proofs.laws.Lists.{All, In, Walk, all-map, all-at}
 use Rattle.rules.proofs.laws.Pools.{Pooled, live-in}
@@ -165,6 +165,7 @@ module _ (st : State) (F : Found st) where
     zeros = λ x l. zeros x l (zone (st .head .elems .extent) x);
     value-zero = λ c l. value-zero c l (zone (st .head .shared .extent) c);
     chain-zero = λ c l. header-ok c (within headerWidth (st .shared) (st .head .shared .extent) (omega arith) past-s c l) .live l;
+    marks = λ c. marks c (zone (st .head .shared .extent) c);
     links = record {
       next-live = λ x l. next-live x (stands x l);
       prev-live = λ x l. let r = from x (stands x l) in subst (λ (u : ℕ). generationOf (st .elems) u ≢ 0) (sym (r .back)) (r .live);
@@ -189,10 +190,18 @@ module _ (st : State) (F : Found st) where
       value-zero c l (inside i) = header-ok c i .free l
       value-zero c l (beyond b) = past-s (headerAt .value) c (omega arith) b
 
+      none : (c : ℕ) → markOf (st .shared) c ≡ 0 → (markOf (st .shared) c ≤ 1) × (markOf (st .shared) c ≤ countOf (st .shared) c)
+      none c e = (omega (arith, e), omega (arith, e))
+
+      marks : (c : ℕ) → Zone (st .head .shared .extent) c → (markOf (st .shared) c ≤ 1) × (markOf (st .shared) c ≤ countOf (st .shared) c)
+      marks c (nowhere q) = none c (rw q (cell-none headerWidth (st .shared) (headerAt .mark)))
+      marks c (inside i) = header-ok c i .mark
+      marks c (beyond b) = none c (past-s (headerAt .mark) c (omega arith) b)
+
 -- ---- of a sound state, each part
 module _ (st : State) (S : Working (view st)) where
   pub must-headers : Headers (st .shared) (st .head .shared .extent) (st .head .shared .live)
-  must-headers = record { slots = λ c l. record { free = λ z. S .value-zero (c + 1) z; live = λ u. S .chain-zero (c + 1) u }; number = S .shared .number }
+  must-headers = record { slots = λ c l. record { free = λ z. S .value-zero (c + 1) z; live = λ u. S .chain-zero (c + 1) u; mark = S .marks (c + 1) }; number = S .shared .number }
 
   pub must-shared : PoolOk (st .head .shared) headerWidth (headerAt .nextFree) (st .shared)
   must-shared = record {
@@ -205,7 +214,8 @@ module _ (st : State) (S : Working (view st)) where
       at zero x l b = S .shared .past x b .0
       at (suc zero) x l b = S .value-zero x (S .shared .past x b .0)
       at (suc (suc zero)) x l b = S .shared .past x b .1
-      at (suc (suc (suc f))) x l b = absurd (omega arith)
+      at (suc (suc (suc zero))) x l b = omega (arith, S .marks x .1, S .shared .past x b .0)
+      at (suc (suc (suc (suc f)))) x l b = absurd (omega arith)
 
   pub must-elems : PoolOk (st .head .elems) frameWidth (frameAt .next) (st .elems)
   must-elems = record {

@@ -10,9 +10,9 @@ use borrow.Author.Tests.{eq-eqb, ne-eqb}
 use Rattle.rules.specs.declared.Head.{Head}
 use Rattle.rules.specs.declared.Key.{Key}
 use Rattle.rules.specs.declared.Joined.the-variants.{Into}
-use Rattle.rules.specs.declared.Refusal.the-variants.{SameClass}
+use Rattle.rules.specs.declared.Refusal.the-variants.{SameClass, Sealed}
 use Rattle.rules.specs.Notation.{if_then_else_, _<?_}
-use Rattle.rules.specs.Tables.{classOf, valueOf, nextOf, State, stateOf, sizeAt}
+use Rattle.rules.specs.Tables.{classOf, valueOf, nextOf, State, stateOf, sizeAt, isSealed}
 use Rattle.rules.specs.Refusals.{Outcome, outcome, refuse}
 use Rattle.rules.specs.Slots.{freeShared}
 use Rattle.rules.specs.Runs.{counted, rewritten, exchanged, joined, keeping}
@@ -66,7 +66,16 @@ module _ (st : State) (x y : ℕ) (j k : Key) where
   unfolding unionAt
   union-same o e p = simp (eq-eqb _ _ e) p
 
-  pub union-differ : (o : Outcome) (b : Bool) (r : Roles) → classOf (st .elems) x ≢ classOf (st .elems) y → r ≡ chosen x y j k b
-      → (sizeAt st x <? sizeAt st y) ≡ b → o ≡ outcome st [] (keeping st (r .keeps) (r .goes) (r .kept)) → o ≡ outcome st [] (unionAt st x y j k)
-  unfolding unionAt
-  union-differ o b r n e t p = simp (ne-eqb _ _ n, t) (p ∙ ap (outcome st []) (chosen-keeping b r e))
+  module _ (n : classOf (st .elems) x ≢ classOf (st .elems) y) where
+    pub union-first : (o : Outcome) → isSealed st x ≡ true → o ≡ outcome st [] (refuse Sealed) → o ≡ outcome st [] (unionAt st x y j k)
+    unfolding unionAt
+    union-first o s p = simp (ne-eqb _ _ n, s) p
+
+    pub union-second : (o : Outcome) → isSealed st x ≡ false → isSealed st y ≡ true → o ≡ outcome st [] (refuse Sealed) → o ≡ outcome st [] (unionAt st x y j k)
+    unfolding unionAt
+    union-second o s t p = simp (ne-eqb _ _ n, s, t) p
+
+    pub union-differ : (o : Outcome) (b : Bool) (r : Roles) → isSealed st x ≡ false → isSealed st y ≡ false → r ≡ chosen x y j k b
+        → (sizeAt st x <? sizeAt st y) ≡ b → o ≡ outcome st [] (keeping st (r .keeps) (r .goes) (r .kept)) → o ≡ outcome st [] (unionAt st x y j k)
+    unfolding unionAt
+    union-differ o b r s t e l p = simp (ne-eqb _ _ n, s, t, l) (p ∙ ap (outcome st []) (chosen-keeping b r e))

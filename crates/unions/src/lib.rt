@@ -87,6 +87,18 @@ fn union_at(
             answer: Joined::Refused(Refusal::SameClass),
         };
     }
+    if slots::is_sealed(head, elems, shared, x) {
+        return HeadJoined {
+            head,
+            answer: Joined::Refused(Refusal::Sealed),
+        };
+    }
+    if slots::is_sealed(head, elems, shared, y) {
+        return HeadJoined {
+            head,
+            answer: Joined::Refused(Refusal::Sealed),
+        };
+    }
     let first_size = slots::get(shared, HEADER, COUNT, first);
     let second_size = slots::get(shared, HEADER, COUNT, second);
     let role = assign(first_size < second_size, x, y, j, k);

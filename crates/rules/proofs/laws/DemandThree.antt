@@ -8,9 +8,9 @@ use native.Mathlib.Omega.{arith}
 use lib.ListN.{length}
 use Rattle.rules.specs.declared.Key.{Key}
 use Rattle.rules.specs.declared.Refusal.{Refusal}
-use Rattle.rules.specs.declared.Refusal.the-variants.{Shape, Unsound, Dead, SameClass, NoElement, NoShared, Short, Malformed}
+use Rattle.rules.specs.declared.Refusal.the-variants.{Shape, Unsound, Dead, SameClass, NoElement, NoShared, Short, Malformed, Sealed}
 use Rattle.rules.specs.Notation.{_==_, _<?_}
-use Rattle.rules.specs.Tables.{classOf, State, sizeAt}
+use Rattle.rules.specs.Tables.{classOf, State, sizeAt, isSealed}
 use Rattle.rules.specs.Refusals.{Ruling, refuse, Outcome, outcome, numberOf}
 use Rattle.rules.specs.Runs
 use Rattle.rules.specs.Calls.{Call, union, step, AtDoor}
@@ -30,7 +30,7 @@ use Rattle.rules.proofs.laws.EveryCall.{call-follows}
 use Rattle.rules.proofs.laws.UnionFrame.{third-frames, third-headers, rewrites-run}
 
 -- at the host's door a good state is met by the call's own rule
-at-door : {st : State} {h : History} → Good st h → (lent : List ℕ) (c : Call) (o : Outcome) → AtDoor st lent c o → o ≡ step st lent c
+pub at-door : {st : State} {h : History} → Good st h → (lent : List ℕ) (c : Call) (o : Outcome) → AtDoor st lent c o → o ≡ step st lent c
 at-door {st} G lent c o d = Door.passes st lent c o d (G .ready .shape) (G .ready .sound)
 
 pub good-call : {st : State} {h : History} → Good st h → (lent : List ℕ) (c : Call) (o : Outcome) → AtDoor st lent c o → Good (o .state) (noted h c (o .said))
@@ -50,7 +50,7 @@ goes-on {st} a lent c = passed st lent c (step st lent c) (after-good a .ready) 
 passes : (st : State) (h : History) → Good st h → (lent : List ℕ) (c : Call) (o : Outcome) → AtDoor st lent c o → (o .said .number ≢ 1) × (o .said .number ≢ 2)
 passes st h G lent c o d = ((λ e. true≢false (sym (G .ready .shape) ∙ exactly-1 st lent c o d .0 e)), λ e. exactly-2 st lent c o d .0 e .1 (G .ready .sound))
 
-not-accepted : (r : Refusal) → numberOf r ≢ 0
+pub not-accepted : (r : Refusal) → numberOf r ≢ 0
 not-accepted Shape = omega arith
 not-accepted Unsound = omega arith
 not-accepted Dead = omega arith
@@ -59,6 +59,7 @@ not-accepted NoElement = omega arith
 not-accepted NoShared = omega arith
 not-accepted Short = omega arith
 not-accepted Malformed = omega arith
+not-accepted Sealed = omega arith
 
 module _ (st : State) (h : History) (G : Good st h) (j k : Key) (lent : List ℕ) where
   -- what is claimed of an accepted union
@@ -108,9 +109,10 @@ module _ (st : State) (h : History) (G : Good st h) (j k : Key) (lent : List ℕ
       by-test claimed (cj == ck) _ _ (λ e. refused SameClass) (λ e.
       let n : cj ≢ ck = is-not (cj ≡ ck) (cj == ck) (eq-is cj ck) e in
       let less = le-is (suc (sizeAt st (j .slot))) (sizeAt st (k .slot)) in
+      by-test claimed (isSealed st (j .slot)) _ _ (λ s. refused Sealed) (λ s. by-test claimed (isSealed st (k .slot)) _ _ (λ s. refused Sealed) (λ s.
       by-test claimed (sizeAt st (j .slot) <? sizeAt st (k .slot)) _ _
       (λ f. second lj lk n (is-so (suc (sizeAt st (j .slot)) ≤ sizeAt st (k .slot)) (sizeAt st (j .slot) <? sizeAt st (k .slot)) less f))
-      (λ f. first lj lk n (let m = is-not (suc (sizeAt st (j .slot)) ≤ sizeAt st (k .slot)) (sizeAt st (j .slot) <? sizeAt st (k .slot)) less f in omega arith)))))
+      (λ f. first lj lk n (let m = is-not (suc (sizeAt st (j .slot)) ≤ sizeAt st (k .slot)) (sizeAt st (j .slot) <? sizeAt st (k .slot)) less f in omega arith)))))))
 
 pub demand-3 : Demand3
 demand-3 = record {

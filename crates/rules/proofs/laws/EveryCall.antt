@@ -1,25 +1,28 @@
--- Every call of the base leads from a good state and history to a good state and history.
+-- Every call leads from a good state and history to a good state and history.
 use mathlib.Core.Path.{_≡_}
 use mathlib.Core.Logic.{_≢_}
 use mathlib.Core.List.{List, [], map}
 use Prim.Native.Nat.{ℕ}
 use Rattle.rules.specs.declared.Key.{Key}
 use Rattle.rules.specs.Notation.{_==_, _<?_}
-use Rattle.rules.specs.Tables.{frameWidth, classOf, State, sizeAt}
+use Rattle.rules.specs.Tables.{frameWidth, classOf, State, sizeAt, isSealed}
 use Rattle.rules.specs.Reads
 use Rattle.rules.specs.Slots.{isFull}
 use Rattle.rules.specs.Runs
 use Rattle.rules.specs.Drains
 use Rattle.rules.specs.Drains.{isShort, keyWidth, recordWidth}
+use Rattle.rules.specs.Seals
+use Rattle.rules.specs.Seals.{sealWidth}
 use Rattle.rules.specs.Exchange
 use Rattle.rules.specs.Exchange.{allDiffer}
 use Rattle.rules.specs.Compress
-use Rattle.rules.specs.Calls.{Call, lenSurject, inSameSurject, getElement, getShared, setElement, setShared, check, newRun, insert, union, remove, removeShared, list, drain, drainAll, clear, exchange, compress, ruling}
+use Rattle.rules.specs.Calls.{Call, lenSurject, inSameSurject, getElement, getShared, setElement, setShared, check, newRun, insert, union, remove, removeShared, list, drain, seal, drainAll, clear, exchange, compress, ruling}
 use Rattle.rules.specs.History.{History}
 use Rattle.rules.proofs.laws.Lists.{all-map, all-image}
 use Rattle.rules.proofs.laws.Tests.{eq-is, is-not}
 use Rattle.rules.proofs.laws.Working.{view}
 use Rattle.rules.proofs.laws.Safe.{working}
+use Rattle.rules.proofs.laws.Steady.{unmarked}
 use Rattle.rules.proofs.laws.Good.{Good, live-of}
 use Rattle.rules.proofs.laws.Rulings.{by-keys}
 use Rattle.rules.proofs.laws.Follows.{Follows, refused, done, either, on-live}
@@ -31,6 +34,7 @@ use Rattle.rules.proofs.laws.Histories.Gone.{good-removeShared}
 use Rattle.rules.proofs.laws.Histories.Drain.{good-run}
 use Rattle.rules.proofs.laws.Histories.Cleared.{good-clear, good-drainAll}
 use Rattle.rules.proofs.laws.Histories.Sets.{good-setElement, good-setShared, good-exchange}
+use Rattle.rules.proofs.laws.Histories.Seal.{good-seal}
 use Rattle.rules.proofs.laws.Histories.Renamed.{good-compress}
 
 module _ (st : State) (lent : List ℕ) (h : History) (G : Good st h) where
@@ -40,9 +44,12 @@ module _ (st : State) (lent : List ℕ) (h : History) (G : Good st h) where
       on-live h (union j k) st j _ (λ lj. on-live h (union j k) st k _ (λ lk.
       either h (union j k) (classOf (st .elems) (j .slot) == classOf (st .elems) (k .slot)) _ _ (λ e. refused) (λ e.
       let n = is-not (classOf (st .elems) (j .slot) ≡ classOf (st .elems) (k .slot)) (classOf (st .elems) (j .slot) == classOf (st .elems) (k .slot)) (eq-is (classOf (st .elems) (j .slot)) (classOf (st .elems) (k .slot))) e in
+      either h (union j k) (isSealed st (j .slot)) _ _ (λ sj. refused) (λ sj. either h (union j k) (isSealed st (k .slot)) _ _ (λ sk. refused) (λ sk.
+      let mj = unmarked st (G .ready) (j .slot) sj in
+      let mk = unmarked st (G .ready) (k .slot) sk in
       either h (union j k) (sizeAt st (j .slot) <? sizeAt st (k .slot)) _ _
-      (λ f. done (good-second st h G j k (live-of st j lj) (live-of st k lk) n []))
-      (λ f. done (good-first st h G j k (live-of st j lj) (live-of st k lk) n [])))))
+      (λ f. done (good-second st h G j k (live-of st j lj) (live-of st k lk) n mj mk []))
+      (λ f. done (good-first st h G j k (live-of st j lj) (live-of st k lk) n mj mk [])))))))
 
   exchange-follows : (keys : List Key) (values : List ℕ) → Follows h (exchange keys values) (Exchange.exchange st keys values)
   unfolding Exchange.exchange
@@ -54,7 +61,7 @@ module _ (st : State) (lent : List ℕ) (h : History) (G : Good st h) where
       (λ e. refused))
 
   pub call-follows : (c : Call) → Follows h c (ruling st lent c)
-  unfolding Reads.lenSurject Reads.inSameSurject Reads.getElement Reads.getShared Reads.setElement Reads.setShared Runs.newRun Runs.insert Runs.remove Drains.removeShared Drains.list Drains.drain Drains.drainAll Drains.clear Compress.compress
+  unfolding Reads.lenSurject Reads.inSameSurject Reads.getElement Reads.getShared Reads.setElement Reads.setShared Runs.newRun Runs.insert Runs.remove Drains.removeShared Drains.list Drains.drain Drains.drainAll Drains.clear Seals.seal Compress.compress
   call-follows (lenSurject k) = on-live h (lenSurject k) st k _ (λ l. done G)
   call-follows (inSameSurject j k) = on-live h (inSameSurject j k) st j _ (λ i. on-live h (inSameSurject j k) st k _ (λ l. done G))
   call-follows (getElement k) = on-live h (getElement k) st k _ (λ l. done G)
@@ -66,12 +73,16 @@ module _ (st : State) (lent : List ℕ) (h : History) (G : Good st h) where
       either h (newRun payload value) (isFull (st .head .shared)) _ _ (λ e. refused) (λ e.
       either h (newRun payload value) (isFull (st .head .elems)) _ _ (λ f. refused) (λ f. done (good-newRun st h G payload value f e)))
   call-follows (insert k payload) = on-live h (insert k payload) st k _ (λ l.
-      either h (insert k payload) (isFull (st .head .elems)) _ _ (λ e. refused) (λ e. done (good-insert st h G k payload (live-of st k l) e)))
+      either h (insert k payload) (isSealed st (k .slot)) _ _ (λ s. refused) (λ s.
+      either h (insert k payload) (isFull (st .head .elems)) _ _ (λ e. refused) (λ e. done (good-insert st h G k payload (live-of st k l) (unmarked st (G .ready) (k .slot) s) e))))
   call-follows (union j k) = union-follows j k
   call-follows (remove k) = on-live h (remove k) st k _ (λ l. done (good-remove st h G k (live-of st k l) []))
   call-follows (removeShared k) = on-live h (removeShared k) st k _ (λ l. done (good-removeShared st h G k (live-of st k l) []))
   call-follows (list k) = on-live h (list k) st k _ (λ l. either h (list k) (isShort lent (sizeAt st (k .slot)) keyWidth) _ _ (λ e. refused) (λ e. done G))
   call-follows (drain k) = on-live h (drain k) st k _ (λ l. either h (drain k) (isShort lent (sizeAt st (k .slot)) recordWidth) _ _ (λ e. refused) (λ e. done (good-run st h G k (live-of st k l))))
+  call-follows (seal k) = on-live h (seal k) st k _ (λ l.
+      either h (seal k) (isSealed st (k .slot)) _ _ (λ s. refused) (λ s.
+      either h (seal k) (isShort lent (sizeAt st (k .slot)) sealWidth) _ _ (λ e. refused) (λ e. done (good-seal st h G k (live-of st k l) []))))
   call-follows drainAll = either h drainAll (isShort lent (st .head .elems .live) recordWidth) _ _ (λ e. refused) (λ e. done (good-drainAll st h G []))
   call-follows clear = done (good-clear st h G [])
   call-follows (exchange keys values) = exchange-follows keys values

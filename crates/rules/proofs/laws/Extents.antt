@@ -8,7 +8,7 @@ use native.Mathlib.Omega.{arith}
 use Rattle.rules.specs.declared.Pool.{Pool}
 use Rattle.rules.specs.declared.Key.{Key}
 use Rattle.rules.specs.Notation.{if_then_else_, _==_, _<?_}
-use Rattle.rules.specs.Tables.{frameWidth, classOf, nextOf, countOf, State, Side, elemSide, sharedSide, sizeAt}
+use Rattle.rules.specs.Tables.{frameWidth, classOf, nextOf, countOf, State, Side, elemSide, sharedSide, sizeAt, isSealed}
 use Rattle.rules.specs.Sound.{bothFit}
 use Rattle.rules.specs.Refusals.{Ruling, refuse, accept, outcome, withLive}
 use Rattle.rules.specs.Reads
@@ -18,10 +18,12 @@ use Rattle.rules.specs.Runs
 use Rattle.rules.specs.Runs.{left, removed, unlinked}
 use Rattle.rules.specs.Drains
 use Rattle.rules.specs.Drains.{isShort, keyWidth, recordWidth, freeRing, drained}
+use Rattle.rules.specs.Seals
+use Rattle.rules.specs.Seals.{sealWidth}
 use Rattle.rules.specs.Exchange
 use Rattle.rules.specs.Exchange.{allDiffer}
 use Rattle.rules.specs.Compress
-use Rattle.rules.specs.Calls.{Call, lenSurject, inSameSurject, getElement, getShared, setElement, setShared, check, newRun, insert, union, remove, removeShared, list, drain, drainAll, clear, exchange, compress, ruling, step}
+use Rattle.rules.specs.Calls.{Call, lenSurject, inSameSurject, getElement, getShared, setElement, setShared, check, newRun, insert, union, remove, removeShared, list, drain, seal, drainAll, clear, exchange, compress, ruling, step}
 use Rattle.rules.proofs.laws.Rulings.{by-test, by-key, by-keys}
 
 -- Rules 3: after taking a slot the extent is the higher of what it was and the slot taken
@@ -99,7 +101,7 @@ module _ (st : State) (lent : List ℕ) where
   on-live k rule h = by-key (Keeps st) (λ r. tt) st k rule (λ l. h)
 
   keeps : (c : Call) → (Anew c → ⊥) → Keeps st (ruling st lent c)
-  unfolding Reads.lenSurject Reads.inSameSurject Reads.getElement Reads.getShared Reads.setElement Reads.setShared Runs.newRun Runs.begun Runs.insert Runs.inserted Runs.keeping Runs.joined Runs.union Runs.remove Drains.removeShared Drains.list Drains.drain Exchange.exchange freeShared freed raise
+  unfolding Reads.lenSurject Reads.inSameSurject Reads.getElement Reads.getShared Reads.setElement Reads.setShared Runs.newRun Runs.begun Runs.insert Runs.inserted Runs.keeping Runs.joined Runs.union Runs.remove Drains.removeShared Drains.list Drains.drain Seals.seal Seals.sealed Exchange.exchange freeShared freed raise
   keeps (lenSurject k) n = on-live k _ (same st)
   keeps (inSameSurject j k) n = on-live j _ (on-live k _ (same st))
   keeps (getElement k) n = on-live k _ (same st)
@@ -109,16 +111,20 @@ module _ (st : State) (lent : List ℕ) where
   keeps check n = same st
   keeps (newRun payload value) n =
       either (isFull (st .head .shared)) _ _ tt (either (isFull (st .head .elems)) _ _ tt (record { elems = taken-least (elemSide st); shared = taken-least (sharedSide st) }))
-  keeps (insert k payload) n = on-live k _ (either (isFull (st .head .elems)) _ _ tt (record { elems = taken-least (elemSide st); shared = omega arith }))
+  keeps (insert k payload) n =
+      on-live k _ (either (isSealed st (k .slot)) _ _ tt (either (isFull (st .head .elems)) _ _ tt (record { elems = taken-least (elemSide st); shared = omega arith })))
   keeps (union j k) n =
       let x = j .slot in
       let y = k .slot in
       on-live j _ (on-live k _ (either (classOf (st .elems) x == classOf (st .elems) y) _ _ tt
-      (either (sizeAt st x <? sizeAt st y) _ _ (record { elems = omega arith; shared = omega arith }) (record { elems = omega arith; shared = omega arith }))))
+      (either (isSealed st x) _ _ tt (either (isSealed st y) _ _ tt
+      (either (sizeAt st x <? sizeAt st y) _ _ (record { elems = omega arith; shared = omega arith }) (record { elems = omega arith; shared = omega arith }))))))
   keeps (remove k) n = on-live k _ (removed-not st (k .slot))
   keeps (removeShared k) n = on-live k _ (let l = freeRing-not (sizeAt st (k .slot)) st (k .slot) in record { elems = l .elems; shared = l .shared })
   keeps (list k) n = on-live k _ (either (isShort lent (sizeAt st (k .slot)) keyWidth) _ _ tt (same st))
   keeps (drain k) n = on-live k _ (either (isShort lent (sizeAt st (k .slot)) recordWidth) _ _ tt (drained-not (sizeAt st (k .slot)) st (k .slot)))
+  keeps (seal k) n =
+      on-live k _ (either (isSealed st (k .slot)) _ _ tt (either (isShort lent (sizeAt st (k .slot)) sealWidth) _ _ tt (record { elems = omega arith; shared = omega arith })))
   keeps drainAll n = absurd (n by-drainAll)
   keeps clear n = absurd (n by-clear)
   keeps (exchange keys values) n =

@@ -26,23 +26,26 @@ use Rattle.rules.proofs.laws.Fronted.{Same, same-length, fronted}
 use Rattle.rules.proofs.laws.Rep.{nextKey, LiveKey, Rep, rep-same, held}
 use Rattle.rules.proofs.laws.Classes.{Run, first-run, run-size, one-class, own-run}
 use Rattle.rules.proofs.laws.Headers.{counts-sum}
+use Rattle.rules.proofs.laws.Seals.{Seals}
 
 pub record Good (st : State) (h : History) : Type 0 where
   pub ready : Ready st
   -- the tables hold the history's runs
   pub rings : Rep (view st) (h .runs)
   pub generation : st .head .generation ≡ h .generation
+  -- the marks are the history's
+  pub seals : Seals (view st) (h .sealed)
   -- the frames are those put in, less those taken out
   pub counts : frames h + h .taken ≡ h .put
 
 -- the same history, written in another way
 pub good-same : {st : State} {h : History} (rs : List (List Key)) → Same (h .runs) rs → Good st h → Good st (withRuns h rs)
-good-same {st} {h} rs s G = record { ready = G .ready; rings = rep-same (view st) s (G .rings); generation = G .generation; counts = ap (λ (n : ℕ). n + h .taken) (sym (same-length s)) ∙ G .counts }
+good-same {st} {h} rs s G = record { ready = G .ready; rings = rep-same (view st) s (G .rings); generation = G .generation; seals = G .seals; counts = ap (λ (n : ℕ). n + h .taken) (sym (same-length s)) ∙ G .counts }
 
--- what is taken out, and the generation, told in another way
-pub good-told : {st : State} {rs : List (List Key)} {put taken taken′ generation generation′ : ℕ} → taken ≡ taken′ → generation ≡ generation′
-    → Good st (record { runs = rs; put = put; taken = taken; generation = generation }) → Good st (record { runs = rs; put = put; taken = taken′; generation = generation′ })
-good-told {st} {rs} {put} e f G = subst (λ (h : History). Good st h) (λ i. record { runs = rs; put = put; taken = e i; generation = f i }) G
+-- which keys are sealed, what is taken out, and the generation, told in another way
+pub good-told : {st : State} {rs : List (List Key)} {sealed sealed′ : List Key} {put taken taken′ generation generation′ : ℕ} → sealed ≡ sealed′ → taken ≡ taken′ → generation ≡ generation′
+    → Good st (record { runs = rs; sealed = sealed; put = put; taken = taken; generation = generation }) → Good st (record { runs = rs; sealed = sealed′; put = put; taken = taken′; generation = generation′ })
+good-told {st} {rs} {put = put} d e f G = subst (λ (h : History). Good st h) (λ i. record { runs = rs; sealed = d i; put = put; taken = e i; generation = f i }) G
 
 -- a live key, as the book says it and as the laws do
 module _ (st : State) where
@@ -75,6 +78,7 @@ module _ (st : State) (h : History) (G : Good st h) where
     meets = λ k l. meets k (live-of st k l);
     returns = λ k l. returns k (live-of st k l);
     before = λ k l. before k (live-of st k l);
+    marks = λ k l. G .seals .marked k (live-of st k l);
     counts = rw (counts-sum (view st) W (h .runs) (G .rings)) (G .counts);
   }
     where

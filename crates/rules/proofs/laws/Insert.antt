@@ -11,6 +11,7 @@ use Rattle.rules.specs.Runs.{inserted}
 use Rattle.rules.specs.Calls.{Ready}
 use Rattle.rules.proofs.laws.Columns.{upd, upd-same, upd-other, cols, length-put, length-row}
 use Rattle.rules.proofs.laws.Pools.{Room, Taken, take, keep}
+use Rattle.rules.proofs.laws.Marked.{marked-count}
 use Rattle.rules.proofs.laws.Working.{View, view, view-path, Frame, Ring, Working, turn}
 use Rattle.rules.proofs.laws.Soundness.{shaped-of}
 use Rattle.rules.proofs.laws.Safe.{working}
@@ -29,6 +30,7 @@ insertV v x t i q = record {
   count = upd (v .count) (v .class x) (v .count (v .class x) + 1);
   value = v .value;
   chain = v .chain;
+  mark = v .mark;
 }
 
 module _ (v : View) (x t i : ℕ) (q : Pool) (S : Working v) (hx : v .gen x ≢ 0) (T : Taken (v .head .elems) (v .gen) (v .next) i q) where
@@ -63,6 +65,7 @@ module _ (v : View) (x t i : ℕ) (q : Pool) (S : Working v) (hx : v .gen x ≢ 
     zeros = λ s. zeros s (ℕ-discrete s i);
     value-zero = λ c. value-zero c (ℕ-discrete c (v .class x));
     chain-zero = λ c. chain-zero c (ℕ-discrete c (v .class x));
+    marks = marked-count (v .mark) (v .count) (S .marks) (v .class x) (v .count (v .class x) + 1) (omega arith);
     links = links-insert spliced (S .links);
     class-live = λ s. class-live s (ℕ-discrete s i);
     ring = λ c. ring c (ℕ-discrete c (v .class x));
@@ -129,7 +132,7 @@ module _ (st : State) (R : Ready st) (x payload : ℕ) (hx : view st .gen x ≢ 
       let sx = live-stored (H .elems) (W .elems) x hx in
       let sn = live-stored (H .elems) (W .elems) (view st .next x) (W .links .next-live x hx) in
       let sc = live-stored (H .shared) (W .shared) (view st .class x) (W .class-live x hx) in
-      view-path _ _ refl (search cols) (search cols) (search cols) (search cols) (search cols) (search cols) (search cols) (search cols)
+      view-path _ _ refl (search cols) (search cols) (search cols) (search cols) (search cols) (search cols) (search cols) (search cols) (search cols)
 
   pub insert-keeps : Ready (inserted st x payload)
   insert-keeps =

@@ -9,20 +9,22 @@ use Rattle.rules.specs.declared.Key.{Key}
 use Rattle.rules.specs.declared.Found.the-variants as lookup
 use Rattle.rules.specs.declared.Refusal.the-variants.{Shape}
 use Rattle.rules.specs.Notation.{if_then_else_, _==_, _<?_}
-use Rattle.rules.specs.Tables.{frameWidth, classOf, State, sizeAt}
+use Rattle.rules.specs.Tables.{frameWidth, classOf, State, sizeAt, isSealed}
 use Rattle.rules.specs.Refusals
 use Rattle.rules.specs.Refusals.{Ruling, refuse, accept, outcome, withLive}
 use Rattle.rules.specs.Reads
 use Rattle.rules.specs.Runs
 use Rattle.rules.specs.Drains
 use Rattle.rules.specs.Drains.{isShort, keyWidth, recordWidth}
+use Rattle.rules.specs.Seals
+use Rattle.rules.specs.Seals.{sealWidth}
 use Rattle.rules.specs.Exchange
 use Rattle.rules.specs.Exchange.{allDiffer}
 use Rattle.rules.specs.Sound.{bothFit}
 use Rattle.rules.specs.Slots
 use Rattle.rules.specs.Slots.{isFull}
 use Rattle.rules.specs.Compress
-use Rattle.rules.specs.Calls.{Call, lenSurject, inSameSurject, getElement, getShared, setElement, setShared, check, newRun, insert, union, remove, removeShared, list, drain, drainAll, clear, exchange, compress, ruling, Ready, step, freshStep}
+use Rattle.rules.specs.Calls.{Call, lenSurject, inSameSurject, getElement, getShared, setElement, setShared, check, newRun, insert, union, remove, removeShared, list, drain, seal, drainAll, clear, exchange, compress, ruling, Ready, step, freshStep}
 use Rattle.rules.proofs.laws.Lists.{all-map, all-image}
 use Rattle.rules.proofs.laws.Working.{view}
 use Rattle.rules.proofs.laws.Safe.{working}
@@ -34,6 +36,7 @@ use Rattle.rules.proofs.laws.Union.{joined-keeps}
 use Rattle.rules.proofs.laws.Remove.{remove-keeps}
 use Rattle.rules.proofs.laws.RemoveShared.{removeShared-keeps}
 use Rattle.rules.proofs.laws.Empty.{clear-keeps, fresh-keeps}
+use Rattle.rules.proofs.laws.Sealed.{seal-keeps}
 use Rattle.rules.proofs.laws.Compress.{compress-keeps}
 use Rattle.rules.proofs.laws.Rulings.{live-at, by-test, by-key, by-keys}
 use Rattle.rules.proofs.laws.Tests.{eq-is, is-not}
@@ -52,7 +55,7 @@ module _ (st : State) (R : Ready st) where
   on-live k rule h = by-key Keeps (λ r. tt) st k rule (λ l. h (live-at st k l))
 
   keeps : (lent : List ℕ) (c : Call) → Keeps (ruling st lent c)
-  unfolding Reads.lenSurject Reads.inSameSurject Reads.getElement Reads.getShared Reads.setElement Reads.setShared Runs.newRun Runs.insert Runs.keeping Runs.union Runs.remove Drains.removeShared Drains.list Drains.drain Drains.drainAll Drains.clear Exchange.exchange Compress.compress
+  unfolding Reads.lenSurject Reads.inSameSurject Reads.getElement Reads.getShared Reads.setElement Reads.setShared Runs.newRun Runs.insert Runs.keeping Runs.union Runs.remove Drains.removeShared Drains.list Drains.drain Drains.drainAll Drains.clear Seals.seal Exchange.exchange Compress.compress
   keeps lent (lenSurject k) = on-live k _ (λ h. R)
   keeps lent (inSameSurject j k) = on-live j _ (λ h. on-live k _ (λ l. R))
   keeps lent (getElement k) = on-live k _ (λ h. R)
@@ -63,18 +66,20 @@ module _ (st : State) (R : Ready st) where
   keeps lent (newRun payload value) =
       either (isFull (st .head .shared)) _ _ (λ e. tt) (λ e.
       either (isFull (st .head .elems)) _ _ (λ f. tt) (λ f. newRun-keeps st R payload value (room (working st R .elems) f) (room (working st R .shared) e)))
-  keeps lent (insert k payload) = on-live k _ (λ h. either (isFull (st .head .elems)) _ _ (λ f. tt) (λ f. insert-keeps st R (k .slot) payload h (room (working st R .elems) f)))
+  keeps lent (insert k payload) = on-live k _ (λ h. either (isSealed st (k .slot)) _ _ (λ s. tt) (λ s. either (isFull (st .head .elems)) _ _ (λ f. tt) (λ f. insert-keeps st R (k .slot) payload h (room (working st R .elems) f))))
   keeps lent (union j k) =
       let x = j .slot in
       let y = k .slot in
       on-live j _ (λ h. on-live k _ (λ l.
       either (classOf (st .elems) x == classOf (st .elems) y) _ _ (λ e. tt) (λ e.
       let apart = is-not (view st .class x ≡ view st .class y) (view st .class x == view st .class y) (eq-is (view st .class x) (view st .class y)) e in
-      either (sizeAt st x <? sizeAt st y) _ _ (λ f. joined-keeps st R y x l h (λ q. apart (sym q))) (λ f. joined-keeps st R x y h l apart))))
+      either (isSealed st x) _ _ (λ s. tt) (λ s. either (isSealed st y) _ _ (λ s. tt) (λ s.
+      either (sizeAt st x <? sizeAt st y) _ _ (λ f. joined-keeps st R y x l h (λ q. apart (sym q))) (λ f. joined-keeps st R x y h l apart))))))
   keeps lent (remove k) = on-live k _ (λ h. remove-keeps st R (k .slot) h)
   keeps lent (removeShared k) = on-live k _ (λ h. removeShared-keeps st R (k .slot) h)
   keeps lent (list k) = on-live k _ (λ h. either (isShort lent (sizeAt st (k .slot)) keyWidth) _ _ (λ e. tt) (λ e. R))
   keeps lent (drain k) = on-live k _ (λ h. either (isShort lent (sizeAt st (k .slot)) recordWidth) _ _ (λ e. tt) (λ e. drain-keeps (sizeAt st (k .slot)) st R (k .slot) h (omega arith)))
+  keeps lent (seal k) = on-live k _ (λ h. either (isSealed st (k .slot)) _ _ (λ s. tt) (λ s. either (isShort lent (sizeAt st (k .slot)) sealWidth) _ _ (λ e. tt) (λ e. seal-keeps st R (view st .class (k .slot)) (working st R .class-live (k .slot) h))))
   keeps lent drainAll = either (isShort lent (st .head .elems .live) recordWidth) _ _ (λ e. tt) (λ e. clear-keeps _ (drainAll-keeps (st .head .shared .live) st R))
   keeps lent clear = clear-keeps st R
   keeps lent (exchange keys values) =

@@ -13,6 +13,7 @@ use Rattle.rules.specs.Calls.{Ready}
 use Rattle.rules.proofs.laws.Lists.{In}
 use Rattle.rules.proofs.laws.Columns.{upd, upd-same, upd-other, cols, length-row}
 use Rattle.rules.proofs.laws.Pools.{Room, Taken, take}
+use Rattle.rules.proofs.laws.Marked.{marked-zero}
 use Rattle.rules.proofs.laws.Working.{View, view, view-path, Frame, Ring, Working}
 use Rattle.rules.proofs.laws.Soundness.{shaped-of}
 use Rattle.rules.proofs.laws.Safe.{working}
@@ -31,6 +32,7 @@ newRunV v t w i q c r = record {
   count = upd (v .count) c 1;
   value = upd (v .value) c w;
   chain = upd (v .chain) c 0;
+  mark = upd (v .mark) c 0;
 }
 
 module _ (v : View) (t w i : ℕ) (q : Pool) (c : ℕ) (r : Pool) (S : Working v)
@@ -46,6 +48,7 @@ module _ (v : View) (t w i : ℕ) (q : Pool) (c : ℕ) (r : Pool) (S : Working v
     zeros = λ s. zeros s (ℕ-discrete s i);
     value-zero = λ d. value-zero d (ℕ-discrete d c);
     chain-zero = λ d. chain-zero d (ℕ-discrete d c);
+    marks = marked-zero (v .mark) (v .count) (S .marks) c 1;
     links = record {
       next-live = λ s h. next-live s h (ℕ-discrete s i);
       prev-live = λ s h. prev-live s h (ℕ-discrete s i);
@@ -153,7 +156,7 @@ module _ (st : State) (R : Ready st) (payload value : ℕ) (room : Room (st .hea
       let W = working st R in
       let si = taken-stored (H .elems) (W .elems) (take (elemSide st) (W .elems) room) in
       let sc = taken-stored (H .shared) (W .shared) (take (sharedSide st) (W .shared) room′) in
-      view-path _ _ refl (search cols) (search cols) (search cols) (search cols) (search cols) (search cols) (search cols) (search cols)
+      view-path _ _ refl (search cols) (search cols) (search cols) (search cols) (search cols) (search cols) (search cols) (search cols) (search cols)
 
   pub newRun-keeps : Ready (begun st payload value)
   newRun-keeps =

@@ -23,9 +23,9 @@ use Rattle.rules.proofs.laws.Leaving.{Counted, goes-on, last-one}
 use Rattle.rules.proofs.laws.Freed.{raised-least, raised-most, freeElement-still, left-still, raise-still}
 use Rattle.rules.proofs.laws.Links.{live-ne, ring-frame, Excised, links-remove, ring-remove}
 
--- the frame `x` goes; its class then has the count `k` and the next free slot `z`, and the pool of classes is `r`
-unfoldable pub removeV : View → ℕ → (count value chain : ℕ → ℕ) → Pool → View
-removeV v x k w z r = record {
+-- the frame `x` goes; its class then has the count `k`, the next free slot `z` and the mark `m`, and the pool of classes is `r`
+unfoldable pub removeV : View → ℕ → (count value chain mark : ℕ → ℕ) → Pool → View
+removeV v x k w z m r = record {
   head = record { elems = freed (v .head .elems) x; shared = r; generation = raised (v .head .generation) };
   gen = upd (v .gen) x 0;
   pay = upd (v .pay) x 0;
@@ -35,10 +35,11 @@ removeV v x k w z r = record {
   count = k;
   value = w;
   chain = z;
+  mark = m;
 }
 
-module _ (v : View) (x : ℕ) (k w z : ℕ → ℕ) (r : Pool) (S : Working v) (hx : v .gen x ≢ 0) (C : Counted v x k w z r) where
-  pub excised : Excised (v .gen) (v .prev) (v .next) (removeV v x k w z r .gen) (removeV v x k w z r .prev) (removeV v x k w z r .next) x
+module _ (v : View) (x : ℕ) (k w z m : ℕ → ℕ) (r : Pool) (S : Working v) (hx : v .gen x ≢ 0) (C : Counted v x k w z m r) where
+  pub excised : Excised (v .gen) (v .prev) (v .next) (removeV v x k w z m r .gen) (removeV v x k w z m r .prev) (removeV v x k w z m r .next) x
   unfolding removeV
   excised = record {
     target = hx;
@@ -56,54 +57,55 @@ module _ (v : View) (x : ℕ) (k w z : ℕ → ℕ) (r : Pool) (S : Working v) (
       turn (l .1) (record { live = hx; mine = refl })
 
   -- another frame of the class: then it was not the last
-  not-last : (s : ℕ) → v .gen s ≢ 0 → s ≢ x → v .class s ≡ v .class x → v .count (v .class x) ≢ 1
-  not-last s h e m = go (mine-ring .rest) (mine-ring .sized) (mine-ring .whole s (record { live = h; mine = m }))
+  pub not-last : (s : ℕ) → v .gen s ≢ 0 → s ≢ x → v .class s ≡ v .class x → v .count (v .class x) ≢ 1
+  not-last s h e q = go (mine-ring .rest) (mine-ring .sized) (mine-ring .whole s (record { live = h; mine = q }))
     where
       go : (l : List ℕ) → suc (length l) ≡ v .count (v .class x) → In s (x ∷ l) → v .count (v .class x) ≢ 1
       go [] q (inl d) = absurd (e d)
       go [] q (inr d) = absurd d
       go (y ∷ ys) q i = omega arith
 
-  pub remove-sound : Working (removeV v x k w z r)
+  pub remove-sound : Working (removeV v x k w z m r)
   unfolding removeV
   remove-sound = record {
     least = raised-least (v .head .generation);
     most = raised-most (v .head .generation) (S .most);
-    elems = free (S .elems) x hx (removeV v x k w z r .next) (upd-same (upd (v .next) (v .prev x) (v .next x)) x (v .head .elems .root))
+    elems = free (S .elems) x hx (removeV v x k w z m r .next) (upd-same (upd (v .next) (v .prev x) (v .next x)) x (v .head .elems .root))
         (λ s e. excised .n-o s (λ q. live-ne (v .gen) hx e (sym q)) (λ q. live-ne (v .gen) (S .links .prev-live x hx) e (sym q)));
     shared = C .shared;
     gens = λ s. gens s (ℕ-discrete s x);
     zeros = λ s. zeros s (ℕ-discrete s x);
     value-zero = C .value-zero;
     chain-zero = C .chain-zero;
+    marks = C .marks;
     links = links-remove excised (S .links);
     class-live = λ s h. class-live s h (ℕ-discrete (v .class s) (v .class x));
     ring = λ c. ring c (ℕ-discrete c (v .class x));
   }
     where
-      gens : (s : ℕ) → Dec (s ≡ x) → removeV v x k w z r .gen s ≤ lastGeneration
+      gens : (s : ℕ) → Dec (s ≡ x) → removeV v x k w z m r .gen s ≤ lastGeneration
       gens s (yes e) = rw (e, upd-same) (omega arith)
       gens s (no e) = rw upd-other (S .gens s)
 
-      zeros : (s : ℕ) → Dec (s ≡ x) → removeV v x k w z r .gen s ≡ 0 → (removeV v x k w z r .pay s ≡ 0) × (removeV v x k w z r .class s ≡ 0) × (removeV v x k w z r .prev s ≡ 0)
+      zeros : (s : ℕ) → Dec (s ≡ x) → removeV v x k w z m r .gen s ≡ 0 → (removeV v x k w z m r .pay s ≡ 0) × (removeV v x k w z m r .class s ≡ 0) × (removeV v x k w z m r .prev s ≡ 0)
       zeros s (yes e) h = rw e (simp upd-same (refl, refl, refl))
       zeros s (no e) h =
           let h′ : v .gen s ≡ 0 = rw upd-other at h in
-          let m : s ≢ v .next x = λ q. live-ne (v .gen) (S .links .next-live x hx) h′ (sym q) in
+          let a : s ≢ v .next x = λ q. live-ne (v .gen) (S .links .next-live x hx) h′ (sym q) in
           simp upd-other (S .zeros s h′)
 
-      gone : (s : ℕ) → removeV v x k w z r .gen s ≢ 0 → s ≢ x
+      gone : (s : ℕ) → removeV v x k w z m r .gen s ≢ 0 → s ≢ x
       gone s h e = h (rw (e, upd-same))
 
-      was : (s : ℕ) → removeV v x k w z r .gen s ≢ 0 → v .gen s ≢ 0
+      was : (s : ℕ) → removeV v x k w z m r .gen s ≢ 0 → v .gen s ≢ 0
       was s h = let e : s ≢ x = gone s h in rw upd-other at h
 
-      class-live : (s : ℕ) → removeV v x k w z r .gen s ≢ 0 → Dec (v .class s ≡ v .class x) → k (removeV v x k w z r .class s) ≢ 0
+      class-live : (s : ℕ) → removeV v x k w z m r .gen s ≢ 0 → Dec (v .class s ≡ v .class x) → k (removeV v x k w z m r .class s) ≢ 0
       class-live s h (yes e) = let d : s ≢ x = gone s h in rw (upd-other, e, C .mine) (omega (arith, not-last s (was s h) d e, S .class-live x hx))
       class-live s h (no e) = let d : s ≢ x = gone s h in rw (upd-other, C .other (v .class s) e) (S .class-live s (was s h))
 
       ring : (c : ℕ) → Dec (c ≡ v .class x) → k c ≢ 0
-          → (y : ℕ) × Ring (removeV v x k w z r .gen) (removeV v x k w z r .class) (removeV v x k w z r .next) c y (k c)
+          → (y : ℕ) × Ring (removeV v x k w z m r .gen) (removeV v x k w z m r .class) (removeV v x k w z m r .next) c y (k c)
       ring c (yes e) h = rw (e, C .mine) (ring-remove excised (S .links) (λ s o. upd-other (v .class) x 0 s o) (omega (arith, rw (e, C .mine) at h)) mine-ring)
       ring c (no e) h =
           let l = S .ring c (rw (C .other c e) at h) in (
@@ -140,24 +142,24 @@ module _ (st : State) (R : Ready st) (x : ℕ) (hx : view st .gen x ≢ 0) where
         header = live-stored (H .shared) (W .shared) class (W .class-live x hx);
       }
 
-  pub removed-on : view st .count class ≢ 1 → view (removed st x) ≡ removeV (view st) x (upd (view st .count) class (view st .count class - 1)) (view st .value) (view st .chain) (st .head .shared)
+  pub removed-on : view st .count class ≢ 1 → view (removed st x) ≡ removeV (view st) x (upd (view st .count) class (view st .count class - 1)) (view st .value) (view st .chain) (view st .mark) (st .head .shared)
   unfolding removed raise left freeElement unlinked linked freeSlot removeV
   removed-on many =
       let stored = near in
       rw (eqb-false (view st .count class) 1 many)
-      (view-path _ _ refl (search cols) (search cols) (search cols) (search cols) (search cols) (search cols) (search cols) (search cols))
+      (view-path _ _ refl (search cols) (search cols) (search cols) (search cols) (search cols) (search cols) (search cols) (search cols) (search cols))
 
   pub removed-last : view st .count class ≡ 1
-      → view (removed st x) ≡ removeV (view st) x (upd (view st .count) class 0) (upd (view st .value) class 0) (upd (view st .chain) class (st .head .shared .root)) (freed (st .head .shared) class)
+      → view (removed st x) ≡ removeV (view st) x (upd (view st .count) class 0) (upd (view st .value) class 0) (upd (view st .chain) class (st .head .shared .root)) (upd (view st .mark) class 0) (freed (st .head .shared) class)
   unfolding removed raise left freeElement freeShared unlinked linked freeSlot removeV
   removed-last one =
       let stored = near in
       rw (eqb-true (view st .count class) 1 one)
-      (view-path _ _ refl (search cols) (search cols) (search cols) (search cols) (search cols) (search cols) (search cols) (search cols))
+      (view-path _ _ refl (search cols) (search cols) (search cols) (search cols) (search cols) (search cols) (search cols) (search cols) (search cols))
 
   pub remove-keeps : Ready (removed st x)
   remove-keeps = ready-still R (removed-still st x) (go (ℕ-discrete (view st .count class) 1))
     where
       go : Dec (view st .count class ≡ 1) → Working (view (removed st x))
-      go (yes e) = rw (removed-last e) (remove-sound (view st) x _ _ _ _ (working st R) hx (last-one (view st) x (working st R) hx e))
-      go (no e) = rw (removed-on e) (remove-sound (view st) x _ _ _ _ (working st R) hx (goes-on (view st) x (working st R) hx e))
+      go (yes e) = rw (removed-last e) (remove-sound (view st) x _ _ _ _ _ (working st R) hx (last-one (view st) x (working st R) hx e))
+      go (no e) = rw (removed-on e) (remove-sound (view st) x _ _ _ _ _ (working st R) hx (goes-on (view st) x (working st R) hx e))

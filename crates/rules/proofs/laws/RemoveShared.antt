@@ -12,6 +12,7 @@ use Rattle.rules.specs.Calls.{Ready}
 use Rattle.rules.proofs.laws.Lists.{In, Out, all-map, out-by, in-dec, out-of}
 use Rattle.rules.proofs.laws.Columns.{upd, upd-same, upd-other}
 use Rattle.rules.proofs.laws.Pools.{free}
+use Rattle.rules.proofs.laws.Marked.{marked-zero}
 use Rattle.rules.proofs.laws.Working.{View, view, Frame, Ring, Working, next-class, prev-class}
 use Rattle.rules.proofs.laws.Soundness.{shaped-of, ring-at}
 use Rattle.rules.proofs.laws.Safe.{working}
@@ -31,6 +32,7 @@ removeSharedV v c xs = record {
   count = upd (v .count) c 0;
   value = upd (v .value) c 0;
   chain = upd (v .chain) c (v .head .shared .root);
+  mark = upd (v .mark) c 0;
 }
 
 module _ (v : View) (c x : ℕ) (S : Working v) (hc : v .count c ≢ 0) (r : Ring (v .gen) (v .class) (v .next) c x (v .count c)) where
@@ -48,6 +50,7 @@ module _ (v : View) (c x : ℕ) (S : Working v) (hc : v .count c ≢ 0) (r : Rin
     zeros = λ s h. zeros s h (in-dec ℕ-discrete s xs);
     value-zero = λ d. value-zero d (ℕ-discrete d c);
     chain-zero = λ d. chain-zero d (ℕ-discrete d c);
+    marks = marked-zero (v .mark) (v .count) (S .marks) c 0;
     links = record {
       next-live = λ s h. let k = kept s h in rw (thread-out xs (v .head .elems .root) (v .next) s (k .out)) (stays (v .next s) (S .links .next-live s (k .live)) (k .next-out));
       prev-live = λ s h. let k = kept s h in rw (wipe-out xs (v .prev) s (k .out)) (stays (v .prev s) (S .links .prev-live s (k .live)) (k .prev-out));

@@ -10,6 +10,7 @@ use Rattle.rules.specs.Runs.{rewritten, joined}
 use Rattle.rules.specs.Calls.{Ready}
 use Rattle.rules.proofs.laws.Columns.{upd, upd-same, upd-other, cols, length-put, length-row}
 use Rattle.rules.proofs.laws.Pools.{relink, keep, free}
+use Rattle.rules.proofs.laws.Marked.{marked-count, marked-zero}
 use Rattle.rules.proofs.laws.Working.{View, view, view-path, Frame, Ring, Working, turn}
 use Rattle.rules.proofs.laws.Soundness.{shaped-of}
 use Rattle.rules.proofs.laws.Safe.{working}
@@ -28,6 +29,7 @@ joinedV v a b = record {
   count = upd (upd (v .count) (v .class a) (v .count (v .class a) + v .count (v .class b))) (v .class b) 0;
   value = upd (v .value) (v .class b) 0;
   chain = upd (v .chain) (v .class b) (v .head .shared .root);
+  mark = upd (v .mark) (v .class b) 0;
 }
 
 module _ (v : View) (a b : ℕ) (S : Working v) (ha : v .gen a ≢ 0) (hb : v .gen b ≢ 0) (differ : v .class a ≢ v .class b) where
@@ -78,6 +80,9 @@ module _ (v : View) (a b : ℕ) (S : Working v) (ha : v .gen a ≢ 0) (hb : v .g
         );
     value-zero = λ c. value-zero c (which c (v .class b) (v .class a));
     chain-zero = λ c. chain-zero c (which c (v .class b) (v .class a));
+    marks =
+        let both = v .count (v .class a) + v .count (v .class b) in
+        marked-zero (v .mark) (upd (v .count) (v .class a) both) (marked-count (v .mark) (v .count) (S .marks) (v .class a) both (omega (arith, S .class-live a ha))) (v .class b) 0;
     links = links-exchange links-exchanged (S .links) ha hb;
     class-live = λ s h. class-live s h (ℕ-discrete (v .class s) (v .class b));
     ring = λ c. ring c (which c (v .class b) (v .class a));
@@ -163,7 +168,7 @@ module _ (st : State) (R : Ready st) (a b : ℕ) (ha : view st .gen a ≢ 0) (hb
       view-path _ _ refl
       (x .gen ∙ r .gen) (x .pay ∙ r .pay) (x .class ∙ rewritten-class st R b (view st .class a) hb)
       (x .prev ∙ ap (λ (f : ℕ → ℕ). upd (upd f (view st .next b) a) (view st .next a) b) (r .prev)) (x .next)
-      (search cols) (search cols) (search cols)
+      (search cols) (search cols) (search cols) (search cols)
 
   pub joined-keeps : view st .class a ≢ view st .class b → Ready (joined st a b)
   joined-keeps differ = ready-still R (joined-still st a b) (rw joined-view (joined-sound (view st) a b (working st R) ha hb differ))

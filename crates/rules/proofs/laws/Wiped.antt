@@ -77,6 +77,7 @@ freeAllV v xs = record {
   count = v .count;
   value = v .value;
   chain = v .chain;
+  mark = v .mark;
 }
 
 pub freeRing-view : (xs : List ℕ) (st : State) (x z : ℕ) → Walk (view st .next) x z xs → NoDup xs → All (Stored frameWidth (st .elems)) xs → view (freeRing (length xs) st x) ≡ freeAllV (view st) xs
