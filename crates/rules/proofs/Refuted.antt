@@ -5,7 +5,7 @@ use mathlib.Core.Path.{_≡_, refl, ap}
 use mathlib.Core.Logic.{inl, inr}
 use mathlib.Core.Bool.{Bool, true, false, false≢true}
 use mathlib.Core.List.{List, [], _∷_, _++_, map}
-use lib.Dec.{lit<}
+use lib.Dec.{lit≤, lit<}
 use lib.ListN.{getD}
 use Rattle.rules.specs.declared.Key.{Key}
 use Rattle.rules.specs.declared.Found.{Found}
@@ -15,7 +15,7 @@ use Rattle.rules.specs.Refusals.{Outcome}
 use Rattle.rules.specs.Calls.{Call, getElement, newRun, union, AtDoor}
 use Rattle.rules.specs.History.{History, othersOf, nothing}
 use Rattle.rules.specs.Demand.{After, start, fresh, call, In, Agrees, Union, Demand3}
-use Rattle.rules.proofs.Cases.{rules, key, ok, refused, pool, at, e, s, zeros}
+use Rattle.rules.proofs.Cases.{rules, key, ok, refused, pool, at, e, s, m, zeros}
 use Rattle.rules.proofs.Worked.{fresh43, one, three}
 use Rattle.rules.proofs.Histories.{told}
 
@@ -87,6 +87,26 @@ leadsOut = at (pool 2 1 0 1) (pool 1 1 0 1) 1 (e 1 10 1 1 2 ++ zeros frameWidth 
 pub no-return : Agrees leadsOut alone → ⊥
 unfolding cell isLive found
 no-return A = let z : _≡_ {A = ℕ} 2 1 = ap (λ (k : Key). k .slot) (A .returns (key 1 1) refl) in omega arith
+
+-- the walk returns before the count: two steps over a ring of one
+abbrev twice : State
+twice = at (pool 1 1 0 1) (pool 1 1 0 1) 1 (e 1 10 1 1 1) (s 2 100 0)
+
+pub returns-early : Agrees twice (told ((key 1 1 ∷ key 1 1 ∷ []) ∷ []) 2 0 1) → ⊥
+unfolding cell isLive found
+returns-early A = A .before (key 1 1) refl 1 (lit≤ tt) (lit< tt) refl
+
+-- Ticket 1: a mark on a run that was never sealed; a sealed run without its mark
+abbrev marked : (mark : ℕ) → State
+marked mark = at (pool 1 1 0 1) (pool 1 1 0 1) 1 (e 1 10 1 1 1) (m 1 100 mark)
+
+pub mark-unsealed : Agrees (marked 1) alone → ⊥
+unfolding cell isLive found
+mark-unsealed A = let z : _≡_ {A = ℕ} 1 0 = A .marks (key 1 1) refl in omega arith
+
+pub sealed-unmarked : Agrees (marked 0) (record { runs = alone .runs; sealed = key 1 1 ∷ []; put = 1; taken = 0; generation = 1 }) → ⊥
+unfolding cell isLive found
+sealed-unmarked A = let z : _≡_ {A = ℕ} 0 1 = A .marks (key 1 1) refl in omega arith
 
 -- the counts do not sum to frames put in less frames taken out
 pub count-less : Agrees one (told ((key 1 1 ∷ []) ∷ []) 2 0 1) → ⊥
