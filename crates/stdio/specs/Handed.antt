@@ -5,6 +5,6 @@ use mathlib.Core.List.{List}
 use lib.ListN.{length}
 use Rattle.stdio.specs.declared.Sent.{Sent}
 
--- `gone` was handed to the writer, in order and nothing beside it: as many bytes were counted as it has (modulo 2 ^ 64, the counter's width). Only `send` counts, and it counts what it hands over.
+-- What went to the writer is as long as `gone` (modulo 2 ^ 64, the counter's width). Only `send` counts, where it writes, and its bytes come at the end of `gone`.
 pub record Handed (sent : Sent) (gone : List ℕ) : Type 0 where
   pub count : sent .count ≡ length gone % 2 ^ 64

@@ -3,7 +3,7 @@ use lib.Seq.{length-take-le}
 use lib.ListN.{take}
 use native.Mathlib.Omega.{arith}
 use mathlib.Core.List.{_++_, append-nil}
-use mathlib.Core.Path.{refl, sym}
+use mathlib.Core.Path.{refl}
 use borrow.Author.Needs.{needs}
 use Rattle.script.proofs.make_room.Statement.{statement}
 use Rattle.script.proofs.make_room.Tie as tie
@@ -12,7 +12,7 @@ sub-if1 : tie.Need-sub-if1
 sub-if1 c = search needs
 
 slice-aggregate-send : tie.Need-slice-aggregate-send
-slice-aggregate-send c = sym (length-take-le _ _ (omega (arith, c .before .before .before .pre .0)))
+slice-aggregate-send c = omega (arith, length-take-le (c .before .before .before .args .fill) (c .before .before .before .args .out .now) (c .before .before .before .pre .0))
 
 send-requires : tie.Need-send-requires
 send-requires c κs = search needs
