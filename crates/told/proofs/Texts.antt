@@ -3,7 +3,7 @@ use Prim.Native.Nat.{ℕ}
 use mathlib.Core.Path.{_≡_, refl}
 use mathlib.Core.List.{List}
 use Rattle.rules.specs.declared.Refusal.{Refusal}
-use Rattle.rules.specs.declared.Refusal.the-variants.{Shape, Unsound, Dead, SameClass, NoElement, NoShared, Short, Malformed}
+use Rattle.rules.specs.declared.Refusal.the-variants.{Shape, Unsound, Dead, SameClass, NoElement, NoShared, Short, Malformed, Sealed}
 use Rattle.rules.specs.Refusals.{Outcome, numberOf, saidRefused}
 use Rattle.rules.specs.Script.{refusedText}
 use Rattle.told.specs.Texts.{textOf}
@@ -17,3 +17,4 @@ text-refused print NoElement lent = refl
 text-refused print NoShared lent = refl
 text-refused print Short lent = refl
 text-refused print Malformed lent = refl
+text-refused print Sealed lent = refl
