@@ -1,18 +1,56 @@
 /* Doorsedge: runs of frames in lent tables, with a shared value for each run.
 
    A port of `SurjectArena` of the Rust crate triple_arena 0.15.1 (MIT OR Apache-2.0), every function of it proved.
-   Link with target/staticlib/libhost.a (`rt staticlib host`).
+   Link with target/staticlib/libhost.a (`rt staticlib host`), or, where `./install` has laid it, with
+   `pkg-config --cflags --libs doorsedge`.
 
    The caller owns everything: a head of DOORSEDGE_HEAD numbers, a table of element slots, a table of shared slots, and
    the buffers that some calls write. Nothing is allocated, nothing is kept between calls. Any numbers may stand in
    them: each call tests them and refuses what does not fit.
 
    Pointers. A length is counted in numbers (uint64_t), not in bytes. Each pointer must be to memory of the size said,
-   must not be NULL (not even with length 0), and those that a call may write must not overlap any other.
+   aligned as a uint64_t is, and what a call may write must not overlap anything else that it is given. NULL is allowed
+   exactly where a length of 0 comes with it: `drain_all` of empty tables takes (NULL, 0) for its records.
+
+   One call at a time may be made on a head and its tables, reads included: nothing here locks, so threads that share
+   them need one lock around every call. And what a call answered holds until the next call: a count that was read
+   before another actor's insert is not the run's count after it.
 
    Refusals. Each entry returns 0 when it accepted, else the number of the refusal. A refused call changes nothing:
    head, tables, buffers and `out` stay as they were. The tests come in the order 1, 2, 3, 4, 6, 5, 7, and each
    entry below lists those that it can give. Every entry but `fresh` can give 1 and 2.
+
+   Keys. A key is two numbers, slot and generation. It is live while its frame is in the tables, and dead (refusal 3)
+   from its frame's removal on. Where only these calls write the tables, a dead key can come alive again, meaning
+   another frame, only after one of these:
+     - an answer said overflow: the generation went from 4,294,967,295 to 1, and rises again through old numbers. A
+       removal raises it by one, so with a thousand a second that comes after 49 days;
+     - drain_all overflowed in its closing clear, which no answer says: the head's generation is then 1;
+     - `fresh`, or a compression with `reset`: the generation is 1 again.
+   After `fresh`, `clear`, `drain_all` and a compression forget all keys from before. What to do on overflow: before the
+   next frame is put in, compress, and forget all keys from before. Or, where keys have to stay, forget those of frames
+   that are gone (a read gives 3 for each), and each of the others as soon as its frame goes: they are good until then.
+
+   What a call costs. Anything may stand in the tables, so every call but `fresh` reads both of them whole, up to their
+   capacities, before it does its own work; `fresh` writes them whole. That is 4 to 7 ns a slot on the machine of
+   docs/SPEED.md, and up to 30 where one ring lies scattered over 65,536 slots: choose capacities that a study needs. A
+   call takes at most DOORSEDGE_STACK bytes of stack (tests/stack-use.sh adds them up), uses no other memory than what
+   is lent, and asks for one symbol from outside, memset.
+
+   Sound. Up to the extent an element slot is free if its generation is 0, a shared slot if its count is 0; else it is
+   live. Refusal 2 is given exactly if one of these does not hold:
+      1  the head's generation is 1 to 4,294,967,295
+      2  each extent is at most its capacity
+      3  each live number is how many live slots there are
+      4  a live element slot's generation is 1 to 4,294,967,295
+      5  each free chain, from the root along next free, meets free slots only, none twice, and ends at 0
+      6  a free slot holds 0 but for next free, a live shared slot 0 in next free, a slot past the extent 0 everywhere
+      7  previous and next of a live element slot are live, and undo each other
+      8  the class of a live element slot is a live shared slot
+      9  all frames of a ring (along next) have one class
+     10  all frames of a class are in one ring
+     11  every live shared slot has a ring, and its count is that ring's number of frames
+   The definition is crates/rules/specs/Sound.antt, a field for each line.
 
    Numbers. Payloads and shared values are any uint64_t. Yes is 1 and no is 0. */
 #ifndef DOORSEDGE_H
@@ -30,7 +68,7 @@ extern "C" {
 enum doorsedge_refusal {
     DOORSEDGE_OK = 0,
     DOORSEDGE_SHAPE = 1,      /* a capacity is not 1 to 65,536, or a table's length is not what its capacity asks */
-    DOORSEDGE_UNSOUND = 2,    /* the shape fits, but head and tables are not a sound state */
+    DOORSEDGE_UNSOUND = 2,    /* the shape fits, but head and tables are not a sound state (Sound 1 to 11, above) */
     DOORSEDGE_DEAD = 3,       /* a key handed in is not live */
     DOORSEDGE_SAME_CLASS = 4, /* two keys that must be of different runs are of one */
     DOORSEDGE_NO_ELEMENT = 5, /* no element slot can be taken */
@@ -46,6 +84,7 @@ enum doorsedge_refusal {
 #define DOORSEDGE_PLACE 2         /* numbers to a place that `list` writes */
 #define DOORSEDGE_RECORD 6        /* numbers to a record that `drain` and `drain_all` write */
 #define DOORSEDGE_MOST_SLOTS 65536
+#define DOORSEDGE_STACK 9216      /* bytes of stack that a call takes at most, memset's own not counted */
 #define DOORSEDGE_LAST_GENERATION UINT64_C(4294967295)
 
 /* Lengths, in numbers, for capacities and counts of frames. */
@@ -97,8 +136,6 @@ enum doorsedge_record {
     DOORSEDGE_RECORD_VALUE = 4,
     DOORSEDGE_RECORD_OVERFLOW = 5
 };
-
-/* A key is two numbers, slot and generation. It is live while its frame is in the tables. */
 
 /* ---- State */
 
@@ -211,7 +248,7 @@ uint64_t doorsedge_drain(uint64_t head[DOORSEDGE_HEAD], uint64_t *elems, size_t 
 /* ---- All at once */
 
 /* Drains every run: again and again the run of the lowest live slot, from there. Then clears; that last step's overflow
-   is not reported.
+   is not reported. Without frames no record is needed: (NULL, 0) will do.
    out: how many records were written.
    Refusals: 1, 2, 7 (fewer than DOORSEDGE_DRAIN_LEN(all frames) numbers). */
 uint64_t doorsedge_drain_all(uint64_t head[DOORSEDGE_HEAD], uint64_t *elems, size_t elems_len, uint64_t *shared,
@@ -234,7 +271,14 @@ uint64_t doorsedge_compress_canonical(uint64_t head[DOORSEDGE_HEAD], uint64_t *e
                                       size_t scratch_len, uint64_t out[1]);
 
 /* ---- The head lent in place: a writer lends its own struct, which lies as the DOORSEDGE_HEAD numbers do, and calls
-   these two as `insert` and `remove_element` are called. */
+   these two as `insert` and `remove_element` are called. The same struct may be handed to the other entries, as its
+   numbers:
+
+       struct doorsedge_lent_head head;
+       uint64_t *numbers = (uint64_t *)&head;
+       doorsedge_fresh(numbers, FRAMES, RUNS, elems, elems_len, shared, shared_len);
+       doorsedge_insert_surject(numbers, elems, elems_len, shared, shared_len, payload, value, key);
+       doorsedge_insert_in_place(&head, elems, elems_len, shared, shared_len, key[0], key[1], payload, key); */
 
 struct doorsedge_pool {
     uint64_t capacity, extent, root, live;

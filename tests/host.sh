@@ -1,7 +1,8 @@
 #!/bin/sh
-# Everything in Rust and C over the archive: the crates' tests, the C example, the disassembly, a bounded differential run.
+# Everything in Rust and C over the archive: the crates' tests, the C programs, the header against what is exported, the
+# disassembly, what an installed archive gives, a bounded differential run.
 #   tests/host.sh [CASES]
-# DOORSEDGE_MOCK=1 takes the plain Rust model for the proved archive, and leaves the disassembly out.
+# DOORSEDGE_MOCK=1 takes the plain Rust model for the proved archive, and leaves out what is about the archive itself.
 set -eu
 cd "$(dirname "$0")/.."
 features=$(tests/archive.sh)
@@ -11,6 +12,9 @@ if [ -n "$features" ]; then
     host/c/run.sh mock
 else
     host/c/run.sh
+    tools/check-header "${DOORSEDGE_ARCHIVE:-target/staticlib}/libhost.a"
     tests/probe.sh
+    tests/stack-use.sh
+    tests/install.sh
 fi
 ./differential "${1:-20000}"

@@ -1,6 +1,6 @@
 #!/bin/sh
-# Builds the C example against the archive, runs it and compares what it prints. `run.sh mock` takes the plain Rust model
-# instead of the proved archive.
+# Builds the C programs here against the archive and runs them: recorder, whose print is compared with recorder.stdout, and
+# entries, which calls every entry. `run.sh mock` takes the plain Rust model instead of the proved archive.
 set -eu
 cd "$(dirname "$0")/../.."
 out=target/cargo/c
@@ -12,5 +12,8 @@ else
     archive=${DOORSEDGE_ARCHIVE:-target/staticlib}/libhost.a
     [ -f "$archive" ] || { echo "$archive is missing: make it with 'rt staticlib host', or run with 'mock'" >&2; exit 1; }
 fi
-${CC:-cc} -std=c99 -O2 -Wall -Wextra -Werror -pedantic -Iinclude -o "$out/recorder" host/c/recorder.c "$archive" -lpthread -ldl -lm
+for program in recorder entries; do
+    ${CC:-cc} -std=c99 -O2 -Wall -Wextra -Werror -pedantic -Iinclude -o "$out/$program" "host/c/$program.c" "$archive" -lpthread -ldl -lm
+done
 "$out/recorder" | diff -u host/c/recorder.stdout - && echo "host/c/recorder: as expected"
+"$out/entries"

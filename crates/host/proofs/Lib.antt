@@ -1,1 +1,5 @@
 pub mod Kit
+pub mod Only
+pub mod Sequences
+pub mod HostRows
+pub mod Played

@@ -45,5 +45,5 @@ pub record AtHost (c : Call) (numbers : Said → List ℕ) (head elems shared le
   pub same : after ≡ shown numbers out outcome
 
 -- The promise of fresh, which has no door but its own
-pub record AtFresh (capacity classes : ℕ) (head elems shared : List ℕ) (after : Left) : Type 0 where
-  pub same : after ≡ shown values [] (freshStep (stateOf (headOf head) elems shared) capacity classes)
+pub record AtFresh (elemCapacity sharedCapacity : ℕ) (head elems shared : List ℕ) (after : Left) : Type 0 where
+  pub same : after ≡ shown values [] (freshStep (stateOf (headOf head) elems shared) elemCapacity sharedCapacity)

@@ -27,10 +27,10 @@ pub fn insert_in_place(
 pub fn remove_in_place(head: &mut Head, elems: &mut [u64], shared: &mut [u64], key: Key) -> TakenOut
     ensures { λ r. ⌜ AtDoor (stateOf (now (head .entry)) (now (elems .entry)) (now (shared .entry))) [] (remove key) (leaves (now (head .exit)) (now (elems .exit)) (now (shared .exit)) [] (saidRemoved (r .answer) (r .over))) ⌝ }
 {
-    let r = door_runs::remove_element(*head, elems, shared, key);
-    *head = r.head;
+    let taken = door_runs::remove_element(*head, elems, shared, key);
+    *head = taken.head;
     TakenOut {
-        answer: r.answer,
-        over: r.over,
+        answer: taken.answer,
+        over: taken.over,
     }
 }

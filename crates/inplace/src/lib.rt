@@ -38,10 +38,10 @@ pub fn remove_in_place(head: &mut Head, elems: &mut [u64], shared: &mut [u64], k
     requires { ⌜ Ready (stateOf (now head) (now elems) (now shared)) ⌝ }
     ensures { λ r. ⌜ leaves (now (head .exit)) (now (elems .exit)) (now (shared .exit)) [] (saidRemoved (r .answer) (r .over)) ≡ step (stateOf (now (head .entry)) (now (elems .entry)) (now (shared .entry))) [] (remove key) ⌝ }
 {
-    let r = removes::remove_element(*head, elems, shared, key);
-    *head = r.head;
+    let taken = removes::remove_element(*head, elems, shared, key);
+    *head = taken.head;
     TakenOut {
-        answer: r.answer,
-        over: r.over,
+        answer: taken.answer,
+        over: taken.over,
     }
 }

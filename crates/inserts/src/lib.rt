@@ -1,15 +1,12 @@
 // New run and insert (Rules 4 and 5) at the inner door: each equal to its rule, on a ready state.
 // Ported from insert_surject_within_capacity and insert_within_capacity of surject_arena.rs (triple_arena 0.15.1, NOTICE).
 use rules::COUNT;
-use rules::FRAME;
 use rules::Found;
 use rules::HEADER;
 use rules::Head;
 use rules::HeadInserted;
 use rules::Inserted;
 use rules::Key;
-use rules::NEXT;
-use rules::NEXT_FREE;
 use rules::Refusal;
 ghost use mathlib.Core.Path.{_≡_};
 ghost use mathlib.Core.List.{[]};
@@ -29,15 +26,11 @@ fn begin(head: Head, elems: &mut [u64], shared: &mut [u64], payload: u64, value:
     let headers = head.shared;
     let x = frames.slot();
     let class = headers.slot();
-    let elem_pool = slots::take(frames, elems, FRAME, NEXT);
-    let shared_pool = slots::take(headers, shared, HEADER, NEXT_FREE);
+    let framed = slots::take_frame(head, elems);
+    let next = slots::take_header(framed, shared);
     slots::write_frame(elems, x, head.generation, payload, class, x, x);
     slots::write_header(shared, class, 1, value, 0);
-    Head {
-        elems: elem_pool,
-        shared: shared_pool,
-        generation: head.generation,
-    }
+    next
 }
 
 // Rules 4, new run.
@@ -83,16 +76,11 @@ fn insert_at(head: Head, elems: &mut [u64], shared: &mut [u64], x: u64, payload:
 {
     let frames = head.elems;
     let y = frames.slot();
-    let pool = slots::take(frames, elems, FRAME, NEXT);
+    let next = slots::take_frame(head, elems);
     let class = slots::splice(elems, x, y, head.generation, payload);
     let count = slots::get(shared, HEADER, COUNT, class);
     slots::put(shared, HEADER, class, COUNT, count + 1);
-    let headers = head.shared;
-    Head {
-        elems: pool,
-        shared: headers,
-        generation: head.generation,
-    }
+    next
 }
 
 // Rules 5, insert; at a sealed run Ticket 1's refusal.

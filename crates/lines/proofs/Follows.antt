@@ -1,7 +1,6 @@
 -- The whole input: what was read and printed so far is what Script says of it, block after block, to the end.
 use Prim.Native.Nat.{ℕ, zero, suc, _+_, _≤_, _<_}
 use mathlib.Core.Path.{_≡_, refl, sym, ap, _∙_}
-use mathlib.Core.Logic.{_⊎_, inl, inr}
 use mathlib.Core.Bool.{Bool, true, false}
 use mathlib.Core.List.{List, [], _∷_, _++_, append-assoc, append-nil}
 use native.Mathlib.Decide.{decLt}
@@ -17,7 +16,7 @@ use Rattle.words.proofs.Letters.{line-long}
 use Rattle.told.specs.Put.{Put}
 use Rattle.lines.specs.declared.stream.Gathered.{Gathered}
 use Rattle.lines.specs.Obeys.{withNewline, ObeysLine}
-use Rattle.lines.specs.Stream.{Holds, Gathers, reached, freshState, Follows, Prints}
+use Rattle.lines.specs.Stream.{Holds, Gathers, reached, freshState, Follows}
 use Rattle.lines.proofs.Gathering.{all-held}
 
 -- ---- pieces of two texts: the last of the one and the first of the other are one
@@ -95,14 +94,13 @@ put-take before after bytes at next p h =
 -- ---- what follows
 
 -- a block comes
-pub follows-block : {past block : List ℕ} {st : State} {out : List ℕ} {fill : ℕ} {line : List ℕ} {held : ℕ}
-    → Follows past [] st out fill line held → Follows (past ++ block) block st out fill line held
+pub follows-block : {past block : List ℕ} {st : State} {out : List ℕ} {fill : ℕ} {line : List ℕ} {held : ℕ} {gone : List ℕ}
+    → Follows past [] st out fill line held gone → Follows (past ++ block) block st out fill line held gone
 unfolding pieces
 follows-block {past} {block} f =
     record {
       lines = f .lines;
       begun = f .begun;
-      gone = f .gone;
       whole = pieces-append newline past block
           ∙ ap (λ (ps : List (List ℕ)). glue ps (pieces newline block)) (f .whole ∙ ap (λ (p : List ℕ). f .lines ++ p ∷ []) (append-nil (f .begun)))
           ∙ glue-last (f .lines) (f .begun) (pieces newline block);
@@ -111,30 +109,20 @@ follows-block {past} {block} f =
       holds = f .holds;
     }
 
--- what stands in the buffer goes out
-pub follows-gone : {input left : List ℕ} {st : State} {out : List ℕ} {fill : ℕ} {line : List ℕ} {held : ℕ}
-    → Follows input left st out fill line held → Follows input left st out 0 line held
-follows-gone {out = out} {fill = fill} f =
-    record {
-      lines = f .lines;
-      begun = f .begun;
-      gone = f .gone ++ take fill out;
-      whole = f .whole;
-      state = f .state;
-      printed = append-nil (f .gone ++ take fill out) ∙ f .printed;
-      holds = f .holds;
-    }
+-- what stands in the buffer may go out: with what has gone out, it stays the same
+pub follows-room : {input left : List ℕ} {st : State} {out : List ℕ} {fill at : ℕ} {line : List ℕ} {held : ℕ} {gone gone′ : List ℕ}
+    → Follows input left st out fill line held gone → gone′ ++ take at out ≡ gone ++ take fill out → Follows input left st out at line held gone′
+follows-room f e = record { lines = f .lines; begun = f .begun; whole = f .whole; state = f .state; printed = e ∙ f .printed; holds = f .holds }
 
 -- a part of a line is gathered
-pub follows-part : {input block : List ℕ} {at : ℕ} {st : State} {out : List ℕ} {fill : ℕ} {line after : List ℕ} {held : ℕ} {r : Gathered}
-    → Follows input (drop at block) st out fill line held → Gathers block at line held after r → r .whole ≡ false
-    → Follows input (drop (r .next) block) st out fill after (r .held)
+pub follows-part : {input block : List ℕ} {at : ℕ} {st : State} {out : List ℕ} {fill : ℕ} {line after : List ℕ} {held : ℕ} {gone : List ℕ} {r : Gathered}
+    → Follows input (drop at block) st out fill line held gone → Gathers block at line held after r → r .whole ≡ false
+    → Follows input (drop (r .next) block) st out fill after (r .held) gone
 unfolding pieces
 follows-part {block = block} {r = r} f g e =
     record {
       lines = f .lines;
       begun = f .begun ++ g .piece;
-      gone = f .gone;
       whole = f .whole ∙ rw (g .first, e, g .last e, drop-length block) (ap (λ (p : List ℕ). f .lines ++ p ∷ []) (sym (append-nil (f .begun ++ g .piece))));
       state = f .state;
       printed = f .printed;
@@ -160,22 +148,21 @@ module _ (st : State) (lines : List (List ℕ)) (bytes gone : List ℕ) (out : L
       ∙ sym (replies-more freshState lines bytes)
 
 -- a whole line is gathered and obeyed: what is left begins a new one
-pub follows-line : {input block : List ℕ} {at : ℕ} {st st′ : State} {out out′ : List ℕ} {fill next : ℕ} {line after : List ℕ} {held : ℕ} {r : Gathered}
-    → Follows input (drop at block) st out fill line held → Gathers block at line held after r → r .whole ≡ true → lineMost < length after
+pub follows-line : {input block : List ℕ} {at : ℕ} {st st′ : State} {out out′ : List ℕ} {fill next : ℕ} {line after : List ℕ} {held : ℕ} {gone : List ℕ} {r : Gathered}
+    → Follows input (drop at block) st out fill line held gone → Gathers block at line held after r → r .whole ≡ true → lineMost < length after
     → ObeysLine (lineReply st (take (r .held) after)) st′ out fill out′ next → next ≤ length out
-    → Follows input (drop (r .next) block) st′ out′ next after 0
-follows-line {block = block} {st = st} {st′} {out} {out′} {fill} {next} {line} {after} {held} {r} f g e m o n =
+    → Follows input (drop (r .next) block) st′ out′ next after 0 gone
+follows-line {block = block} {st = st} {st′} {out} {out′} {fill} {next} {line} {after} {held} {gone} {r} f g e m o n =
     let bytes = f .begun ++ g .piece in
     let h = g .holds (f .begun) (f .holds) in
     record {
       lines = f .lines ++ bytes ∷ [];
       begun = [];
-      gone = f .gone;
       whole = f .whole
           ∙ rw (g .first, e) (sym (append-snoc (f .lines) bytes (pieces newline (drop (r .next) block))))
           ∙ ap (λ (ps : List (List ℕ)). (f .lines ++ bytes ∷ []) ++ ps) (sym (onto-nothing newline (drop (r .next) block)));
-      state = state-then st (f .lines) bytes (f .gone) out fill after (r .held) (f .state) (f .printed) h m st′ out′ next o n;
-      printed = printed-then st (f .lines) bytes (f .gone) out fill after (r .held) (f .state) (f .printed) h m st′ out′ next o n;
+      state = state-then st (f .lines) bytes gone out fill after (r .held) (f .state) (f .printed) h m st′ out′ next o n;
+      printed = printed-then st (f .lines) bytes gone out fill after (r .held) (f .state) (f .printed) h m st′ out′ next o n;
       holds = record { within = omega arith; same = sym (take-nil (length after)) };
     }
 
@@ -194,15 +181,15 @@ with-last ([] ∷ l ∷ ls) b bs = ap (λ (r : List (List ℕ)). [] ∷ r) (with
 with-last ((c ∷ cs) ∷ ls) b bs = ap (λ (r : List (List ℕ)). (c ∷ cs) ∷ r) (with-last ls b bs)
 
 -- the input's lines, all but the one begun
-module _ {input : List ℕ} {st : State} {out : List ℕ} {fill : ℕ} {line : List ℕ} {held : ℕ} (f : Follows input [] st out fill line held) where
+module _ {input : List ℕ} {st : State} {out : List ℕ} {fill : ℕ} {line : List ℕ} {held : ℕ} {gone : List ℕ} (f : Follows input [] st out fill line held gone) where
   parts : pieces newline input ≡ f .lines ++ f .begun ∷ []
   unfolding pieces
   parts = f .whole ∙ ap (λ (p : List ℕ). f .lines ++ p ∷ []) (append-nil (f .begun))
 
   -- no line was begun
-  pub follows-end : held ≡ 0 → 0 < length line → Prints input out fill
+  pub follows-end : held ≡ 0 → 0 < length line → gone ++ take fill out ≡ output input
   unfolding output
-  follows-end z l = record { gone = f .gone; printed = f .printed ∙ go (f .begun) refl }
+  follows-end z l = f .printed ∙ go (f .begun) refl
     where
       go : (b : List ℕ) → f .begun ≡ b → replies freshState (f .lines) ≡ replies freshState (withoutEmptyLast (pieces newline input))
       go [] e = ap (replies freshState) (sym (without-empty (f .lines)) ∙ ap withoutEmptyLast (ap (λ (p : List ℕ). f .lines ++ p ∷ []) (sym e) ∙ sym parts))
@@ -210,13 +197,10 @@ module _ {input : List ℕ} {st : State} {out : List ℕ} {fill : ℕ} {line : L
 
   -- the last line lacks its newline
   pub follows-last : {st′ : State} {out′ : List ℕ} {next : ℕ} → 1 ≤ held → lineMost < length line
-      → ObeysLine (lineReply st (take held line)) st′ out fill out′ next → next ≤ length out → Prints input out′ next
+      → ObeysLine (lineReply st (take held line)) st′ out fill out′ next → next ≤ length out → gone ++ take next out′ ≡ output input
   unfolding output
   follows-last {st′} {out′} {next} h m o n =
-      record {
-        gone = f .gone;
-        printed = printed-then st (f .lines) (f .begun) (f .gone) out fill line held (f .state) (f .printed) (f .holds) m st′ out′ next o n ∙ go (f .begun) refl;
-      }
+      printed-then st (f .lines) (f .begun) gone out fill line held (f .state) (f .printed) (f .holds) m st′ out′ next o n ∙ go (f .begun) refl
     where
       go : (b : List ℕ) → f .begun ≡ b → replies freshState (f .lines ++ f .begun ∷ []) ≡ replies freshState (withoutEmptyLast (pieces newline input))
       go [] e =
@@ -228,13 +212,7 @@ module _ {input : List ℕ} {st : State} {out : List ℕ} {fill : ℕ} {line : L
           ∙ ap withoutEmptyLast (ap (λ (p : List ℕ). f .lines ++ p ∷ []) (sym e) ∙ sym parts))
 
 -- nothing was read yet
-pub follows-start : (out line : List ℕ) → Follows [] [] freshState out 0 line 0
+pub follows-start : (out line : List ℕ) → Follows [] [] freshState out 0 line 0 []
 unfolding pieces reached replies
 follows-start out line =
-    record { lines = []; begun = []; gone = []; whole = refl; state = refl; printed = refl; holds = record { within = omega arith; same = sym (take-nil (length line)) } }
-
--- what stands in the buffer may have gone out
-pub follows-room : {input left : List ℕ} {st : State} {out : List ℕ} {fill r : ℕ} {line : List ℕ} {held : ℕ}
-    → Follows input left st out fill line held → (r ≡ 0) ⊎ (r ≡ fill) → Follows input left st out r line held
-follows-room f (inl e) = rw e (follows-gone f)
-follows-room f (inr e) = rw e f
+    record { lines = []; begun = []; whole = refl; state = refl; printed = refl; holds = record { within = omega arith; same = sym (take-nil (length line)) } }

@@ -40,17 +40,11 @@ reached st (l ∷ ls) = reached (lineReply st l .state) ls
 abbrev pub freshState : State
 freshState = empty capacity capacity 1
 
--- Of an input, `left` is still to be read. Its lines so far were obeyed, from fresh tables on; what they print has gone out, or stands at the start of `out`; and the line begun is held.
-pub record Follows (input left : List ℕ) (st : State) (out : List ℕ) (fill : ℕ) (line : List ℕ) (held : ℕ) : Type 0 where
+-- Of an input, `left` is still to be read. Its lines so far were obeyed, from fresh tables on; what they print is what has gone out, and what stands at the start of `out` after it; and the line begun is held.
+pub record Follows (input left : List ℕ) (st : State) (out : List ℕ) (fill : ℕ) (line : List ℕ) (held : ℕ) (gone : List ℕ) : Type 0 where
   pub lines : List (List ℕ)
   pub begun : List ℕ
-  pub gone : List ℕ
   pub whole : pieces newline input ≡ lines ++ onto begun (pieces newline left)
   pub state : st ≡ reached freshState lines
   pub printed : gone ++ take fill out ≡ replies freshState lines
   pub holds : Holds line held begun
-
--- at the end: all that Script prints of the input has gone out, or stands at the start of `out`
-pub record Prints (input out : List ℕ) (fill : ℕ) : Type 0 where
-  pub gone : List ℕ
-  pub printed : gone ++ take fill out ≡ output input

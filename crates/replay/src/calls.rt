@@ -1,20 +1,16 @@
 // A record's call, made at the host's door and compared with the record's answers: reads and sets here.
-use crate::answers::is_ring;
 use crate::frames;
-use crate::names::key;
-use crate::names::wide;
 use crate::whole;
 use rules::Done;
 use rules::Head;
 use rules::Key;
-use rules::Number;
-use sample::COUNT;
 use sample::REFUSED;
 use sample::is_answer;
 use sample::is_done;
+use sample::is_list;
 use sample::is_number;
-use sample::is_refused;
 use sample::is_same;
+use sample::key;
 use sample::number;
 
 // The head after a call, and whether the answer was the same.
@@ -79,12 +75,7 @@ fn list(
 ) -> bool {
     let mut places = [0u64; 32];
     let answer = door::list(head, elems, shared, k, &mut places);
-    match answer {
-        Number::Is(n) => record[REFUSED] == 0
-            && n == number(record[COUNT])
-            && is_ring(wide(record[COUNT]), 2, &places, given, record),
-        Number::Refused(refusal) => is_refused(refusal, record),
-    }
+    is_list(answer, &places, given, record)
 }
 
 fn set(

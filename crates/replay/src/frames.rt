@@ -1,17 +1,14 @@
 // Frames in and out.
 use crate::calls::Next;
-use crate::names::key;
 use crate::names::learn;
 use rules::Head;
 use rules::Inserted;
-use rules::Joined;
-use rules::Removed;
-use rules::Rest;
-use sample::FIRST;
 use sample::REFUSED;
-use sample::is_answer;
+use sample::is_joined;
 use sample::is_number;
 use sample::is_refused;
+use sample::is_removed;
+use sample::key;
 use sample::number;
 
 pub fn make(
@@ -99,19 +96,6 @@ fn union(
     Next { head: after, same }
 }
 
-fn is_joined(answer: Joined, given: &[u64; 512], record: &[u8; 32]) -> bool {
-    match answer {
-        Joined::Into { was, kept, moved } => {
-            let wanted = key(given, record[FIRST + 1]);
-            is_answer(0, was, record)
-                && is_answer(2, moved, record)
-                && kept.slot == wanted.slot
-                && kept.generation == wanted.generation
-        }
-        Joined::Refused(refusal) => is_refused(refusal, record),
-    }
-}
-
 fn remove(
     head: Head,
     elems: &mut [u64],
@@ -132,18 +116,4 @@ fn remove(
     let after = step.head;
     let same = is_number(answer, record) && !step.over;
     Next { head: after, same }
-}
-
-fn is_removed(answer: Removed, record: &[u8; 32]) -> bool {
-    match answer {
-        Removed::Out { payload, rest } => is_answer(0, payload, record) && is_rest(rest, record),
-        Removed::Refused(refusal) => is_refused(refusal, record),
-    }
-}
-
-fn is_rest(rest: Rest, record: &[u8; 32]) -> bool {
-    match rest {
-        Rest::GoesOn => is_answer(1, 0, record) && is_answer(2, 0, record),
-        Rest::Last(value) => is_answer(1, 1, record) && is_answer(2, value, record),
-    }
 }

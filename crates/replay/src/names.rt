@@ -1,24 +1,7 @@
 // The map from the sample's frames to keys, kept as keys are given: a slot for each frame, then a generation for each.
 // Frame 255 was never given one.
 use rules::Key;
-
-pub fn wide(x: u8) -> usize {
-    x as usize
-}
-
-pub fn key(given: &[u64; 512], frame: u8) -> Key {
-    let at = wide(frame);
-    if 256 <= at {
-        return Key {
-            slot: 0,
-            generation: 0,
-        };
-    }
-    Key {
-        slot: given[at],
-        generation: given[at + 256],
-    }
-}
+use sample::wide;
 
 pub fn learn(given: &mut [u64; 512], frame: u8, key: Key) {
     let at = wide(frame);

@@ -1,17 +1,12 @@
 // Calls on a whole ring or on all of them.
-use crate::answers::is_ring;
 use crate::calls::Next;
 use crate::names::forget;
-use crate::names::key;
 use crate::names::relearn;
 use rules::Head;
-use rules::Number;
-use sample::COUNT;
-use sample::is_answer;
 use sample::is_done;
+use sample::is_drained;
 use sample::is_number;
-use sample::is_refused;
-use sample::number;
+use sample::key;
 
 pub fn make(
     head: Head,
@@ -65,29 +60,6 @@ fn drain(
     let after = step.head;
     let same = is_drained(answer, &records, given, record);
     Next { head: after, same }
-}
-
-fn is_drained(answer: Number, records: &[u64; 96], given: &[u64; 512], record: &[u8; 32]) -> bool {
-    match answer {
-        Number::Is(n) => is_drain(n, records, given, record),
-        Number::Refused(refusal) => is_refused(refusal, record),
-    }
-}
-
-// The ring, frame by frame, then its value.
-fn is_drain(n: u64, records: &[u64; 96], given: &[u64; 512], record: &[u8; 32]) -> bool {
-    if n == 0 {
-        return false;
-    }
-    if 16 < n {
-        return false;
-    }
-    if n + 1 != number(record[COUNT]) {
-        return false;
-    }
-    let count = n as usize;
-    let value = records[count * 6 - 2];
-    is_answer(count, value, record) && is_ring(count, 6, records, given, record)
 }
 
 fn drain_all(head: Head, elems: &mut [u64; 80], shared: &mut [u64; 48], record: &[u8; 32]) -> Next {

@@ -50,6 +50,7 @@ pub mod Ascending
 pub mod Blocks
 pub mod Sets
 pub mod Empty
+pub mod Extents
 pub mod Drained
 pub mod Sealed
 pub mod Kept

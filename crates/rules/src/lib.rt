@@ -3,7 +3,7 @@
 ghost use mathlib.Core.Path.{_≡_};
 ghost use Prim.Native.Nat.{_+_, _≤_};
 ghost use Rattle.rules.specs.Notation.{_==_};
-ghost use Rattle.rules.specs.Tables.{mostSlots, lastGeneration, withGeneration};
+ghost use Rattle.rules.specs.Tables.{mostSlots, lastGeneration, withPools, withGeneration};
 ghost use Rattle.rules.specs.Slots.{slotOf, isFull, freed, raised};
 
 // Numbers to an element slot and to a shared slot (docs/LAYOUT.md); in the rules, frameWidth and headerWidth.
@@ -113,6 +113,66 @@ pub struct Raised {
 }
 
 impl Head {
+    // Rules 3, of an element slot: the free root is taken, and `next` becomes the root.
+    pub fn pop_element(mut self, next: u64) -> Self
+        requires { ⌜ self .elems .live ≤ mostSlots ⌝ }
+        ensures { λ r. ⌜ r ≡ withPools self (record { capacity = self .elems .capacity; extent = self .elems .extent; root = next; live = self .elems .live + 1 }) (self .shared) ⌝ }
+    {
+        let pool = self.elems.pop(next);
+        self.elems = pool;
+        self
+    }
+
+    // Rules 3: the slot past the extent is taken.
+    pub fn grow_element(mut self) -> Self
+        requires { ⌜ (self .elems .extent ≤ mostSlots) × (self .elems .live ≤ mostSlots) ⌝ }
+        ensures { λ r. ⌜ r ≡ withPools self (record { capacity = self .elems .capacity; extent = self .elems .extent + 1; root = self .elems .root; live = self .elems .live + 1 }) (self .shared) ⌝ }
+    {
+        let pool = self.elems.grow();
+        self.elems = pool;
+        self
+    }
+
+    // Rules 3: an element slot is freed.
+    pub fn push_element(mut self, slot: u64) -> Self
+        requires { ⌜ 1 ≤ self .elems .live ⌝ }
+        ensures { λ r. ⌜ r ≡ withPools self (freed (self .elems) slot) (self .shared) ⌝ }
+    {
+        let pool = self.elems.push(slot);
+        self.elems = pool;
+        self
+    }
+
+    // The same of a shared slot.
+    pub fn pop_shared(mut self, next: u64) -> Self
+        requires { ⌜ self .shared .live ≤ mostSlots ⌝ }
+        ensures { λ r. ⌜ r ≡ withPools self (self .elems) (record { capacity = self .shared .capacity; extent = self .shared .extent; root = next; live = self .shared .live + 1 }) ⌝ }
+    {
+        let pool = self.shared.pop(next);
+        self.shared = pool;
+        self
+    }
+
+    // The same of a shared slot.
+    pub fn grow_shared(mut self) -> Self
+        requires { ⌜ (self .shared .extent ≤ mostSlots) × (self .shared .live ≤ mostSlots) ⌝ }
+        ensures { λ r. ⌜ r ≡ withPools self (self .elems) (record { capacity = self .shared .capacity; extent = self .shared .extent + 1; root = self .shared .root; live = self .shared .live + 1 }) ⌝ }
+    {
+        let pool = self.shared.grow();
+        self.shared = pool;
+        self
+    }
+
+    // The same of a shared slot.
+    pub fn push_shared(mut self, slot: u64) -> Self
+        requires { ⌜ 1 ≤ self .shared .live ⌝ }
+        ensures { λ r. ⌜ r ≡ withPools self (self .elems) (freed (self .shared) slot) ⌝ }
+    {
+        let pool = self.shared.push(slot);
+        self.shared = pool;
+        self
+    }
+
     // Rules, below the list: after the last generation comes 1.
     pub fn raise(mut self) -> Raised
         requires { ⌜ self .generation ≤ lastGeneration ⌝ }

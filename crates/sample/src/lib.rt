@@ -1,14 +1,23 @@
 // Whether what the door says is what the Rust said: each test is passed only where they agree (Running against the Rust).
+mod keys;
+
+pub use keys::is_drained;
+pub use keys::is_joined;
+pub use keys::is_list;
+pub use keys::key;
+pub use keys::wide;
 use numbers::answers::number_of;
 use rules::Done;
 use rules::Number;
 use rules::Refusal;
+use rules::Removed;
+use rules::Rest;
 use rules::Same;
 ghost use mathlib.Core.Path.{_≡_};
 ghost use mathlib.Core.Bool.{false};
 ghost use Rattle.rules.specs.Refusals.{saidRefused};
 ghost use Rattle.rules.specs.Answers.{saidDone, saidNumber, saidSame};
-ghost use Rattle.sample.specs.Sample.{refusalOf, answerAt, Agrees, OnlyIf};
+ghost use Rattle.sample.specs.Sample.{refusalOf, answerAt, Listed, Agrees, restAnswers, removedAnswers, OnlyIf};
 
 // Places in a record: the refusal, how many answers, the first answer.
 pub const REFUSED: usize = 9;
@@ -83,5 +92,42 @@ pub fn is_same(answer: Same, sample: &[u8; 32]) -> bool
         Same::Yes => is_answer(0, 1, sample),
         Same::No => is_answer(0, 0, sample),
         Same::Refused(refusal) => is_refused(refusal, sample),
+    }
+}
+
+// Whether the run goes on without the frame, and its value if not.
+fn is_rest(rest: Rest, sample: &[u8; 32]) -> bool
+    ensures { λ r. ⌜ OnlyIf (Listed 1 (restAnswers rest) (now (sample .entry))) r ⌝ }
+{
+    match rest {
+        Rest::GoesOn => is_pair(0, 0, sample),
+        Rest::Last(value) => is_pair(1, value, sample),
+    }
+}
+
+fn is_pair(last: u64, value: u64, sample: &[u8; 32]) -> bool
+    ensures { λ r. ⌜ OnlyIf ((last ≡ answerAt (now (sample .entry)) 1) × (value ≡ answerAt (now (sample .entry)) 2)) r ⌝ }
+{
+    if last != number(sample[FIRST + 1]) {
+        return false;
+    }
+    if value != number(sample[FIRST + 2]) {
+        return false;
+    }
+    true
+}
+
+// A removal: the payload, and the rest of the run.
+pub fn is_removed(answer: Removed, sample: &[u8; 32]) -> bool
+    ensures { λ r. ⌜ OnlyIf (Agrees (removedAnswers answer) (now (sample .entry))) r ⌝ }
+{
+    match answer {
+        Removed::Out { payload, rest } => {
+            if is_answer(0, payload, sample) {
+                return is_rest(rest, sample);
+            }
+            false
+        }
+        Removed::Refused(refusal) => is_refused(refusal, sample),
     }
 }

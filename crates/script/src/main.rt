@@ -4,15 +4,14 @@ ghost use mathlib.Core.Path.{_≡_};
 ghost use mathlib.Core.List.{List, [], _++_};
 ghost use lib.ListN.{length, take, drop};
 ghost use Rattle.rules.specs.Tables.{stateOf};
-ghost use Rattle.rules.specs.Script.{lineReply};
-ghost use Rattle.lines.specs.Obeys.{replyMost, ObeysLine};
-ghost use Rattle.lines.specs.Stream.{freshState, Follows, Prints};
-ghost use Rattle.script.specs.Progress.{Working, Room, Answered, Advanced, Fed};
-use libc::STDIN_FILENO;
-use libc::STDOUT_FILENO;
-use lines::Obeyed;
+ghost use Rattle.rules.specs.Script.{lineReply, output};
+ghost use Rattle.lines.specs.Obeys.{replyMost};
+ghost use Rattle.lines.specs.Stream.{freshState};
+ghost use Rattle.stdio.specs.Handed.{Handed};
+ghost use Rattle.script.specs.Progress.{Working, Room, Answered, Doing, Advanced, Fed, Ran};
 use rules::Head;
 use rules::Pool;
+use stdio::Sent;
 
 // Script: the capacity of both tables.
 const CAPACITY: u64 = 512;
@@ -20,12 +19,19 @@ const CAPACITY: u64 = 512;
 // The most bytes of a reply with its newline; in the rules of lines, replyMost.
 const REPLY_MOST: usize = 21533;
 
-// Between lines: the head, how much of the output and of a line are held, and the place in the block.
+// Between lines: the head, how much of the output and of a line are held, the place in the block, and what went to the writer.
 struct Progress {
     head: Head,
     fill: usize,
     held: usize,
     at: usize,
+    sent: Sent,
+}
+
+// Where the next reply goes, and what went to the writer.
+struct Place {
+    at: usize,
+    sent: Sent,
 }
 
 // Rules 2: the head over zero tables.
@@ -46,15 +52,15 @@ fn fresh_head() -> Head
 }
 
 // Room for a reply: where there is none, what stands in `out` is written first.
-fn make_room(out: &[u8], fill: usize) -> usize
+fn make_room(out: &[u8], fill: usize, sent: Sent) -> Place
     requires { ⌜ (fill ≤ length (now out)) × (replyMost ≤ length (now out)) ⌝ }
-    ensures { λ r. ⌜ Room (now (out .entry)) fill r ⌝ }
+    ensures { λ r. ⌜ Room (now (out .entry)) fill sent r ⌝ }
 {
     if out.len() - fill < REPLY_MOST {
-        io::write_all(STDOUT_FILENO, &out[..fill]);
-        return 0;
+        let sent = stdio::send(sent, &out[..fill]);
+        return Place { at: 0, sent };
     }
-    fill
+    Place { at: fill, sent }
 }
 
 // The line that is held, obeyed.
@@ -65,14 +71,24 @@ fn answer(
     keys: &mut [u64],
     out: &mut [u8],
     line: &[u8],
-) -> Obeyed
+) -> Progress
     requires { ⌜ Working (stateOf (p .head) (now elems) (now shared)) (now keys) (now out) (now line) (p .fill) (p .held) ⌝ }
-    ensures { λ r. ⌜ Answered (lineReply (stateOf (p .head) (now (elems .entry)) (now (shared .entry))) (take (p .held) (now (line .entry)))) (stateOf (r .head) (now (elems .exit)) (now (shared .exit))) (now (out .entry)) (p .fill) (now (out .exit)) (r .next) ⌝ }
+    ensures { λ r. ⌜ Answered (lineReply (stateOf (p .head) (now (elems .entry)) (now (shared .entry))) (take (p .held) (now (line .entry)))) (stateOf (r .head) (now (elems .exit)) (now (shared .exit))) (now (out .entry)) p (now (out .exit)) r ⌝ }
 {
     let head = p.head;
     let held = p.held;
-    let at = make_room(out, p.fill);
-    lines::obey_bytes(head, elems, shared, keys, out, at, &line[..held])
+    let sent = p.sent;
+    let place = make_room(out, p.fill, sent);
+    let o = lines::obey_bytes(head, elems, shared, keys, out, place.at, &line[..held]);
+    let head = o.head;
+    let sent = place.sent;
+    Progress {
+        head,
+        fill: o.next,
+        held: 0,
+        at: p.at,
+        sent,
+    }
 }
 
 // A line or a part of one is taken from the block; a whole line is obeyed.
@@ -90,21 +106,16 @@ fn advance(
 {
     let g = lines::gather(block, p.at, line, p.held);
     let head = p.head;
+    let sent = p.sent;
     let q = Progress {
         head,
         fill: p.fill,
         held: g.held,
         at: g.next,
+        sent,
     };
     if g.whole {
-        let o = answer(q, elems, shared, keys, out, line);
-        let head = o.head;
-        return Progress {
-            head,
-            fill: o.next,
-            held: 0,
-            at: g.next,
-        };
+        return answer(q, elems, shared, keys, out, line);
     }
     q
 }
@@ -130,7 +141,7 @@ fn feed(
     q
 }
 
-// The end of the input: the last line may lack its newline. What then stands in `out` is still to be written.
+// The end of the input: the last line may lack its newline. What then stands in `out` is handed to the writer.
 fn finish(
     p: Progress,
     elems: &mut [u64],
@@ -138,16 +149,19 @@ fn finish(
     keys: &mut [u64],
     out: &mut [u8],
     line: &[u8],
-) -> usize
+) -> Sent
     requires { ⌜ Working (stateOf (p .head) (now elems) (now shared)) (now keys) (now out) (now line) (p .fill) (p .held) ⌝ }
-    ensures { λ r. ⌜ ((input : List ℕ) → Follows input [] (stateOf (p .head) (now (elems .entry)) (now (shared .entry))) (now (out .entry)) (p .fill) (now (line .entry)) (p .held) → Prints input (now (out .exit)) r) ⌝ }
-    ensures { λ r. ⌜ r ≤ length (now (out .exit)) ⌝ }
+    ensures { λ r. ⌜ ((input : List ℕ) → Doing input [] p (now (elems .entry)) (now (shared .entry)) (now (out .entry)) (now (line .entry)) → Handed r (output input)) ⌝ }
 {
     if p.held == 0 {
-        return p.fill;
+        let sent = p.sent;
+        let fill = p.fill;
+        return stdio::send(sent, &out[..fill]);
     }
-    let o = answer(p, elems, shared, keys, out, line);
-    o.next
+    let q = answer(p, elems, shared, keys, out, line);
+    let sent = q.sent;
+    let fill = q.fill;
+    stdio::send(sent, &out[..fill])
 }
 
 // A proved loop has to end, and nothing says that an input does: the loop counts its turns down, from a number that no run uses up.
@@ -158,26 +172,27 @@ fn run(
     out: &mut [u8],
     line: &mut [u8],
     block: &mut [u8],
-)
+) -> Sent
     requires { ⌜ Working (stateOf (freshState .head) (now elems) (now shared)) (now keys) (now out) (now line) 0 0 × (stateOf (freshState .head) (now elems) (now shared) ≡ freshState) ⌝ }
+    ensures { λ r. ⌜ Ran r ⌝ }
 {
     let mut p = Progress {
         head: fresh_head(),
         fill: 0,
         held: 0,
         at: 0,
+        sent: stdio::nothing_sent(),
     };
     let mut turns = u64::MAX;
     while turns > 0 {
-        let n = io::count(libc::read(STDIN_FILENO, block), block);
+        let n = stdio::receive(block);
         if n == 0 {
             break;
         }
         p = feed(p, elems, shared, keys, out, line, &block[..n]);
         turns -= 1;
     }
-    let end = finish(p, elems, shared, keys, out, line);
-    io::write_all(STDOUT_FILENO, &out[..end]);
+    finish(p, elems, shared, keys, out, line)
 }
 
 fn main() {

@@ -12,13 +12,12 @@ use rules::NEXT;
 use rules::NEXT_FREE;
 use rules::PAYLOAD;
 use rules::PREVIOUS;
-use rules::Pool;
 use rules::VALUE;
 ghost use mathlib.Core.Path.{_≡_};
 ghost use mathlib.Core.List.{List, [], _∷_};
 ghost use Prim.Native.Nat.{ℕ, _+_, _*_, _≤_, _<_};
 ghost use lib.ListN.{length};
-ghost use Rattle.rules.specs.Tables.{frameWidth, headerWidth, cell, put, row, stateOf, previousOf, nextOf, classOf, isSealed};
+ghost use Rattle.rules.specs.Tables.{frameWidth, headerWidth, cell, put, row, stateOf, withPools, elemSide, sharedSide, previousOf, nextOf, classOf, isSealed};
 ghost use Rattle.rules.specs.Slots.{taken, freeElement, freeShared};
 ghost use Rattle.rules.specs.Runs.{frame, linked, exchanged, rewritten};
 ghost use Rattle.slots.specs.Asked.{Within, Cell, Takes, Next, Between, Along, OnLive};
@@ -70,17 +69,30 @@ pub fn write_header(s: &mut [u64], slot: u64, count: u64, value: u64, next: u64)
     put(s, HEADER, slot, MARK, 0);
 }
 
-// Rules 3, taking a slot: in a free slot the field `link` names the next free one.
-pub fn take(pool: Pool, t: &[u64], width: u64, link: u64) -> Pool
-    requires { ⌜ Takes pool width (now t) link ⌝ }
-    ensures { λ r. ⌜ ((used : ℕ) → r ≡ taken (record { pool = pool; table = now (t .entry); width = width; used = used; link = link })) ⌝ }
+// Rules 3, taking an element slot.
+pub fn take_frame(head: Head, elems: &[u64]) -> Head
+    requires { ⌜ Takes (head .elems) frameWidth (now elems) ⌝ }
+    ensures { λ r. ⌜ ((s : List ℕ) → r ≡ withPools head (taken (elemSide (stateOf head (now (elems .entry)) s))) (head .shared)) ⌝ }
 {
-    let root = pool.root;
+    let root = head.elems.root;
     if root == 0 {
-        return pool.grow();
+        return head.grow_element();
     }
-    let next = get(t, width, link, root);
-    pool.pop(next)
+    let next = get(elems, FRAME, NEXT, root);
+    head.pop_element(next)
+}
+
+// Rules 3, taking a shared slot.
+pub fn take_header(head: Head, shared: &[u64]) -> Head
+    requires { ⌜ Takes (head .shared) headerWidth (now shared) ⌝ }
+    ensures { λ r. ⌜ ((e : List ℕ) → r ≡ withPools head (head .elems) (taken (sharedSide (stateOf head e (now (shared .entry)))))) ⌝ }
+{
+    let root = head.shared.root;
+    if root == 0 {
+        return head.grow_shared();
+    }
+    let next = get(shared, HEADER, NEXT_FREE, root);
+    head.pop_shared(next)
 }
 
 // Rules 3, freeing an element slot.
@@ -89,13 +101,7 @@ pub fn free_frame(head: Head, elems: &mut [u64], slot: u64) -> Head
     ensures { λ r. ⌜ ((s : List ℕ) → stateOf r (now (elems .exit)) s ≡ freeElement (stateOf head (now (elems .entry)) s) slot) ⌝ }
 {
     write_frame(elems, slot, 0, 0, 0, 0, head.elems.root);
-    let pool = head.elems.push(slot);
-    let shared = head.shared;
-    Head {
-        elems: pool,
-        shared,
-        generation: head.generation,
-    }
+    head.push_element(slot)
 }
 
 // Rules 3, freeing a shared slot.
@@ -104,13 +110,7 @@ pub fn free_header(head: Head, shared: &mut [u64], slot: u64) -> Head
     ensures { λ r. ⌜ ((e : List ℕ) → stateOf r e (now (shared .exit)) ≡ freeShared (stateOf head e (now (shared .entry))) slot) ⌝ }
 {
     write_header(shared, slot, 0, 0, head.shared.root);
-    let elems = head.elems;
-    let pool = head.shared.push(slot);
-    Head {
-        elems,
-        shared: pool,
-        generation: head.generation,
-    }
+    head.push_shared(slot)
 }
 
 // Tables 4: a key is looked up.

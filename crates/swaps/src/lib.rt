@@ -9,7 +9,8 @@ ghost use Rattle.rules.specs.Tables.{frameWidth, headerWidth, classOf};
 ghost use Rattle.slots.specs.Asked.{Within};
 ghost use Rattle.swaps.specs.Swaps.{Trail, Followable, Exchanged, Brought, Permuting, Permuted};
 
-// Class entries followed from `at` past displaced slots, until one at or past the place.
+// Class entries followed from `at` past displaced slots, until one at or past the place. The slice stands behind a second reference so that the
+// last call is a tail call, a loop when compiled: with the slice itself as parameter each of up to 65,536 levels would use stack (tests/archive).
 fn follow(elems: &&[u64], place: u64, at: u64) -> u64
     requires { ⌜ Followable (now (now elems)) place at ⌝ }
     ensures { λ r. ⌜ Trail (classOf (now (now (elems .entry)))) place at r ⌝ }

@@ -12,7 +12,7 @@ use lib.Arith.{digits-div, digits-mod}
 use lib.Dec.{lit<}
 use lib.ListN.{length, getD, length-append, List·getD-append}
 use Rattle.rules.specs.Notation.{if_then_else_, _==_, _≤?_, _<?_, every}
-use Rattle.rules.specs.Script.{digits, decimal, sameBytes, valueOf, number}
+use Rattle.rules.specs.Script.{digits, decimal, sameBytes, wordValue, number}
 
 -- ---- the decimal of a number
 
@@ -135,32 +135,32 @@ same-bytes (x ∷ xs) (y ∷ ys) e =
     let p = both-true (x == y) (sameBytes xs ys) e in rw (eqb-true x y (p .0), same-bytes xs ys (p .1))
 
 -- a digit more of a word
-pub valueOf-append : (v : ℕ) (xs ys : List ℕ) → valueOf v (xs ++ ys) ≡ valueOf (valueOf v xs) ys
-valueOf-append v [] ys = refl
-valueOf-append v (x ∷ xs) ys = valueOf-append (v * 10 + (x - 48)) xs ys
+pub wordValue-append : (v : ℕ) (xs ys : List ℕ) → wordValue v (xs ++ ys) ≡ wordValue (wordValue v xs) ys
+wordValue-append v [] ys = refl
+wordValue-append v (x ∷ xs) ys = wordValue-append (v * 10 + (x - 48)) xs ys
 
-pub valueOf-least : (v : ℕ) (xs : List ℕ) → v ≤ valueOf v xs
-valueOf-least v [] = le-refl v
-valueOf-least v (x ∷ xs) = omega (arith, valueOf-least (v * 10 + (x - 48)) xs)
+pub wordValue-least : (v : ℕ) (xs : List ℕ) → v ≤ wordValue v xs
+wordValue-least v [] = le-refl v
+wordValue-least v (x ∷ xs) = omega (arith, wordValue-least (v * 10 + (x - 48)) xs)
 
 -- ---- which words are numbers
 
-pub number-is : (most n : ℕ) (word : List ℕ) → valueOf 0 word ≡ n → n ≤ most → decimal n ≡ word → number most word ≡ some n
+pub number-is : (most n : ℕ) (word : List ℕ) → wordValue 0 word ≡ n → n ≤ most → decimal n ≡ word → number most word ≡ some n
 unfolding number
 number-is most n word e l d = rw (e, le-leb n most l, d, sameBytes-refl word)
 
-pub number-large : (most : ℕ) (word : List ℕ) → most < valueOf 0 word → number most word ≡ none
+pub number-large : (most : ℕ) (word : List ℕ) → most < wordValue 0 word → number most word ≡ none
 unfolding number
-number-large most word l = rw (lt-leb (valueOf 0 word) most l)
+number-large most word l = rw (lt-leb (wordValue 0 word) most l)
 
-pub number-other : (most : ℕ) (word : List ℕ) → (decimal (valueOf 0 word) ≡ word → ⊥) → number most word ≡ none
+pub number-other : (most : ℕ) (word : List ℕ) → (decimal (wordValue 0 word) ≡ word → ⊥) → number most word ≡ none
 unfolding number
-number-other most word d = go (sameBytes (decimal (valueOf 0 word)) word) refl
+number-other most word d = go (sameBytes (decimal (wordValue 0 word)) word) refl
   where
-    go : (t : Bool) → sameBytes (decimal (valueOf 0 word)) word ≡ t
-        → (if (valueOf 0 word ≤? most) && sameBytes (decimal (valueOf 0 word)) word then some (valueOf 0 word) else none) ≡ none
+    go : (t : Bool) → sameBytes (decimal (wordValue 0 word)) word ≡ t
+        → (if (wordValue 0 word ≤? most) && sameBytes (decimal (wordValue 0 word)) word then some (wordValue 0 word) else none) ≡ none
     go true e = absurd (d (same-bytes _ _ e))
-    go false e = rw (e, and-false (valueOf 0 word ≤? most))
+    go false e = rw (e, and-false (wordValue 0 word ≤? most))
 
 pub number-empty : (most : ℕ) → number most [] ≡ none
 unfolding decimal
@@ -176,17 +176,17 @@ pub number-no-digit : (most : ℕ) (xs : List ℕ) (b : ℕ) (ys : List ℕ) →
 unfolding decimal
 number-no-digit most xs b ys h =
     number-other most (xs ++ b ∷ ys)
-    λ e. apart (every isDigit (xs ++ b ∷ ys)) (rw e at (digits-every 20 (valueOf 0 (xs ++ b ∷ ys)))) (every-not xs b ys h)
+    λ e. apart (every isDigit (xs ++ b ∷ ys)) (rw e at (digits-every 20 (wordValue 0 (xs ++ b ∷ ys)))) (every-not xs b ys h)
 
 -- no leading zeros
 pub number-zero-first : (most b : ℕ) (ys : List ℕ) → most < 10 ^ 20 → number most (48 ∷ b ∷ ys) ≡ none
 unfolding decimal
-number-zero-first most b ys h = go (decLt most (valueOf 0 (48 ∷ b ∷ ys)))
+number-zero-first most b ys h = go (decLt most (wordValue 0 (48 ∷ b ∷ ys)))
   where
     first : (n : ℕ) → n ≤ most → decimal n ≡ 48 ∷ b ∷ ys → ⊥
     first zero l e = omega (arith, ap length e)
     first (suc n) l e = digits-first 20 (suc n) (omega arith) (omega arith) .1 (ap (λ (ds : List ℕ). getD ds 0 0) e)
 
-    go : Dec (most < valueOf 0 (48 ∷ b ∷ ys)) → number most (48 ∷ b ∷ ys) ≡ none
+    go : Dec (most < wordValue 0 (48 ∷ b ∷ ys)) → number most (48 ∷ b ∷ ys) ≡ none
     go (yes l) = number-large most (48 ∷ b ∷ ys) l
-    go (no l) = number-other most (48 ∷ b ∷ ys) (first (valueOf 0 (48 ∷ b ∷ ys)) (omega arith))
+    go (no l) = number-other most (48 ∷ b ∷ ys) (first (wordValue 0 (48 ∷ b ∷ ys)) (omega arith))

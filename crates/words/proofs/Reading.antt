@@ -11,9 +11,9 @@ use native.Mathlib.Omega.{arith}
 use borrow.Author.Tests.{le-leb, lt-leb}
 use lib.ListN.{length, getD}
 use lib.Seq.{slice, slice-empty}
-use Rattle.rules.specs.Script.{decimal, valueOf, number}
+use Rattle.rules.specs.Script.{decimal, wordValue, number}
 use Rattle.words.specs.Words.{IsDigit}
-use Rattle.words.proofs.Decimals.{decimal-one, decimal-more, valueOf-append, valueOf-least, isDigit, number-empty, number-is, number-large, number-no-digit, number-zero-first}
+use Rattle.words.proofs.Decimals.{decimal-one, decimal-more, wordValue-append, wordValue-least, isDigit, number-empty, number-is, number-large, number-no-digit, number-zero-first}
 use Rattle.words.proofs.Pieces.{slice-split, slice-suc}
 
 no-digit : (b d : ℕ) → IsDigit b d → 9 < d → isDigit b ≡ false
@@ -36,7 +36,7 @@ module _ (line : List ℕ) (from end most : ℕ) where
     pub low : from ≤ i
     pub high : i ≤ end
     pub small : value ≤ most
-    pub worth : valueOf 0 (slice from i line) ≡ value
+    pub worth : wordValue 0 (slice from i line) ≡ value
     pub said : from < i → decimal value ≡ slice from i line
 
   pub reading-start : from ≤ end → Reading 0 from
@@ -56,10 +56,10 @@ module _ (line : List ℕ) (from end most : ℕ) where
 
     pub reading-large : d ≤ 9 → 9 ≤ most → (most - d) / 10 < value → number most (slice from end line) ≡ none
     reading-large h n l =
-        let e : valueOf 0 (slice from end line) ≡ valueOf (value * 10 + (getD line i 0 - 48)) (slice (suc i) end line) =
-        rw whole (valueOf-append 0 (slice from i line) (getD line i 0 ∷ slice (suc i) end line) ∙ rw (r .worth)) in
+        let e : wordValue 0 (slice from end line) ≡ wordValue (value * 10 + (getD line i 0 - 48)) (slice (suc i) end line) =
+        rw whole (wordValue-append 0 (slice from i line) (getD line i 0 ∷ slice (suc i) end line) ∙ rw (r .worth)) in
         number-large most (slice from end line)
-        (omega (arith, e, digit .digit h, valueOf-least (value * 10 + (getD line i 0 - 48)) (slice (suc i) end line)))
+        (omega (arith, e, digit .digit h, wordValue-least (value * 10 + (getD line i 0 - 48)) (slice (suc i) end line)))
 
     more : d ≤ 9 → value * 10 + d < 10 ^ 20 → (value ≡ 0 → i ≤ from) → Dec (from < i) → decimal (value * 10 + d) ≡ slice from i line ++ (48 + d) ∷ []
     more h m z (yes l) =
@@ -78,7 +78,7 @@ module _ (line : List ℕ) (from end most : ℕ) where
           low = omega (arith, r .low);
           high = omega arith;
           small = l;
-          worth = rw s (valueOf-append 0 (slice from i line) ((48 + d) ∷ []) ∙ rw (r .worth) (omega arith));
+          worth = rw s (wordValue-append 0 (slice from i line) ((48 + d) ∷ []) ∙ rw (r .worth) (omega arith));
           said = λ g. rw s (more h (omega arith) z (decLt from i));
         }
 

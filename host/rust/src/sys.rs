@@ -2,8 +2,8 @@
 //!
 //! # Safety
 //!
-//! Each pointer is to memory of the size that the header says, is not null, and memory that a call may write does not
-//! overlap any other. Lengths are in numbers.
+//! Each pointer is to memory of the size that the header says, is null only with a length of 0, and memory that a call may
+//! write does not overlap any other. Lengths are in numbers. One call at a time is made on a head and its tables.
 
 #[cfg(feature = "mock")]
 use mock as _;

@@ -9,6 +9,11 @@ use model::door::{Call, run};
 use model::{HEAD, Key, check};
 use std::slice::{from_raw_parts, from_raw_parts_mut};
 
+/// A lent table or buffer; null comes with length 0.
+unsafe fn lent<'a>(at: *mut u64, len: usize) -> &'a mut [u64] {
+    if at.is_null() { &mut [] } else { unsafe { from_raw_parts_mut(at, len) } }
+}
+
 /// The model stores only what a call changes, so what the header calls const is not written.
 unsafe fn enter(
     head: *const u64,
@@ -17,22 +22,20 @@ unsafe fn enter(
     shared: *const u64,
     shared_len: usize,
     call: Call,
-    lent: *mut u64,
-    lent_len: usize,
+    buffer: *mut u64,
+    buffer_len: usize,
     out: *mut u64,
 ) -> u64 {
     let count = call.name().1;
-    let mut none = [0u64; 0];
     unsafe {
-        let lent = if lent.is_null() { &mut none[..] } else { from_raw_parts_mut(lent, lent_len) };
         let mut said = [0; 4];
         let number = run(
             check::sound,
             &mut *(head as *mut [u64; HEAD]),
-            from_raw_parts_mut(elems as *mut u64, elems_len),
-            from_raw_parts_mut(shared as *mut u64, shared_len),
+            lent(elems as *mut u64, elems_len),
+            lent(shared as *mut u64, shared_len),
             &call,
-            lent,
+            lent(buffer, buffer_len),
             &mut said,
         );
         if number == 0 && count != 0 {

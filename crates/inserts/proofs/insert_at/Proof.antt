@@ -1,3 +1,4 @@
+use mathlib.Core.List.{[]}
 use Rattle.inserts.proofs.Room.{given}
 use Rattle.slots.specs.Answered.{spliced}
 use Rattle.rules.specs.Runs.{inserted}
@@ -8,8 +9,8 @@ use Rattle.inserts.proofs.insert_at.Tie as tie
 slot-requires : tie.Need-slot-requires
 slot-requires c κs = search needs
 
-take-requires : tie.Need-take-requires
-take-requires c κs = search needs
+take-frame-requires : tie.Need-take-frame-requires
+take-frame-requires c κs = search needs
 
 splice-requires : tie.Need-splice-requires
 splice-requires c κs = let p = c .before .before .before .before .before .before .before .pre .0 in let s = given _ (p .safe .elems .pool) (c .before .before .before .before .before .before .before .pre .1) in rw (c .before .before .before .slot .ensures) (search needs)
@@ -21,7 +22,7 @@ add-put : tie.Need-add-put
 add-put c = let p = c .before .before .before .before .before .before .before .before .before .before .before .before .before .pre .0 in rw ((c .before .get .ensures), (c .before .before .before .before .before .splice .ensures .0)) (search needs)
 
 put-requires : tie.Need-put-requires
-put-requires c κs = search needs
+put-requires c κs = let p = c .before .before .before .before .before .before .before .before .before .before .before .before .before .pre .0 in search needs
 
 same-length : tie.Need-same-length
 same-length c = search needs
@@ -31,14 +32,14 @@ same-length-2 c = search needs
 
 returns : tie.Need-returns
 unfolding inserted spliced
-returns c = rw ((c .before .before .before .put .ensures), (c .before .before .before .before .before .get .ensures), (c .before .before .before .before .before .before .before .before .before .splice .ensures .1), (c .before .before .before .before .before .before .before .before .before .splice .ensures .0), (c .before .before .before .before .before .before .before .before .before .before .before .take .ensures 0), (c .before .before .before .before .before .before .before .before .before .before .before .before .before .slot .ensures))
+returns c = rw ((c .before .before .put .ensures), (c .before .before .before .before .get .ensures), (c .before .before .before .before .before .before .before .before .splice .ensures .1), (c .before .before .before .before .before .before .before .before .splice .ensures .0), (c .before .before .before .before .before .before .before .before .before .before .take-frame .ensures []), (c .before .before .before .before .before .before .before .before .before .before .before .before .slot .ensures))
 
 pub insert-at-spec : {M : Type 1} → statement M
 insert-at-spec =
     tie.close
     (tie.spec
     slot-requires
-    take-requires
+    take-frame-requires
     splice-requires
     get-requires
     add-put

@@ -1,7 +1,8 @@
 -- Shape, soundness and the history at once; from it, what demand 3 claims of the tables.
 use mathlib.Core.Path.{_≡_, refl, sym, ap, _∙_, subst}
+use mathlib.Core.Logic.{_≢_}
 use mathlib.Core.List.{List, _∷_}
-use Prim.Native.Nat.{ℕ, _+_}
+use Prim.Native.Nat.{ℕ, _+_, _≤_, _<_}
 use native.Mathlib.Omega.{arith}
 use lib.ListN.{length}
 use Rattle.rules.specs.declared.Key.{Key}
@@ -15,7 +16,7 @@ use Rattle.rules.specs.History.{History, frames, withRuns, runOf, others
 use Rattle.rules.specs.Demand
 use Rattle.rules.specs.Demand.{headerOf, Agrees}
 use Rattle.rules.proofs.laws.Lists.{In, all-at}
-use Rattle.rules.proofs.laws.Steps.{walk-along, walk-end}
+use Rattle.rules.proofs.laws.Steps.{walk-along, walk-end, walk-once}
 use Rattle.rules.proofs.laws.Pools.{live-in}
 use Rattle.rules.proofs.laws.Working.{view, Working}
 use Rattle.rules.proofs.laws.Sides
@@ -76,6 +77,7 @@ module _ (st : State) (h : History) (G : Good st h) where
     own = λ j k i l e. in-to j (runOf k (h .runs)) (own-run (view st) W k (othersOf k (h .runs)) (run-from k (live-of st k l)) j (live-of st j i) e);
     meets = λ k l. meets k (live-of st k l);
     returns = λ k l. returns k (live-of st k l);
+    before = λ k l. before k (live-of st k l);
     marks = λ k l. G .seals .marked k (live-of st k l);
     counts = rw (counts-sum (view st) W (h .runs) (G .rings)) (G .counts);
   }
@@ -97,3 +99,6 @@ module _ (st : State) (h : History) (G : Good st h) where
 
       returns : (k : Key) → LiveKey (view st) k → steps (Demand.nextKey st) (sizeAt st (k .slot)) k ≡ k
       returns k l = subst (λ (n : ℕ). steps (Demand.nextKey st) n k ≡ k) (size-from k l) (walk-end (Demand.nextKey st) k k (runOf k (h .runs)) (refl, run-from k l .ring))
+
+      before : (k : Key) → LiveKey (view st) k → (i : ℕ) → 1 ≤ i → i < sizeAt st (k .slot) → steps (Demand.nextKey st) i k ≢ k
+      before k l i a b e = walk-once (Demand.nextKey st) k k (runOf k (h .runs)) (refl, run-from k l .ring) (run-from k l .once) 0 i (omega arith) (omega (arith, size-from k l)) (sym e)

@@ -1,7 +1,7 @@
 -- `script::answer` meets its contract.
 use lib.Seq.{length-take-le}
 use native.Mathlib.Omega.{arith}
-use mathlib.Core.Path.{sym}
+use mathlib.Core.Path.{refl, sym}
 use borrow.Author.Needs.{needs}
 use Rattle.script.proofs.answer.Statement.{statement}
 use Rattle.script.proofs.answer.Tie as tie
@@ -10,7 +10,7 @@ make-room-requires : tie.Need-make-room-requires
 make-room-requires c κs = search needs
 
 slice-aggregate-obey-bytes : tie.Need-slice-aggregate-obey-bytes
-slice-aggregate-obey-bytes c = sym (length-take-le _ _ (c .before .before .before .before .before .before .before .before .before .before .before .before .before .pre .held))
+slice-aggregate-obey-bytes c = sym (length-take-le _ _ (c .before .before .before .before .before .before .before .before .before .before .before .before .before .before .pre .held))
 
 obey-bytes-requires : tie.Need-obey-bytes-requires
 obey-bytes-requires c κs = search needs
@@ -29,9 +29,9 @@ same-length-4 c = search needs
 
 returns : tie.Need-returns
 returns c =
-    let room = c .before .before .before .before .before .before .before .before .before .before .before .before .before .before .make-room in
-    let obeyed = c .before .before .before .before .before .before .before .before .obey-bytes in
-    record { at = room .result; place = room .ensures .place; obeys = obeyed .ensures; within = omega (arith, obeyed .ensures .within, room .ensures .room) }
+    let room = c .before .before .before .before .before .before .before .before .before .before .before .before .before .before .before .before .make-room in
+    let obeyed = c .before .before .before .before .before .before .before .before .before .before .obey-bytes in
+    record { at = room .result .at; stays = room .ensures .stays; obeys = obeyed .ensures; within = omega (arith, obeyed .ensures .within, room .ensures .room); none = refl; place = refl }
 
 pub answer-spec : {M : Type 1} → statement M
 answer-spec =

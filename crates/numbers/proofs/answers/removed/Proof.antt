@@ -34,7 +34,7 @@ returns-2 : tie.Need-returns-2
 returns-2 c = rw (c .before .before .before .before .number-if .ensures) (accepted _ _ _ _ _ (ap (λ (a : Removed). saidRemoved a (c .before .before .before .before .before .before .before .before .args .over)) (c .before .before .before .before .before .before .answer .given .1) ∙ ap (λ (q : Rest). saidRemoved (Out (c .before .before .before .before .before .before .answer .given .0 .0) q) (c .before .before .before .before .before .before .before .before .args .over)) (c .before .before .rest .given .1)))
 
 returns-3 : tie.Need-returns-3
-returns-3 c = refused _ _ (c .before .before .answer2 .given .0 .0) _ _ (ap (λ (a : Removed). saidRemoved a (c .before .before .before .before .args .over)) (c .before .before .answer2 .given .1)) (c .number-of .ensures)
+returns-3 c = refused _ _ (c .before .before .answer2 .given .0 .0) _ _ _ _ (ap (λ (a : Removed). saidRemoved a (c .before .before .before .before .args .over)) (c .before .before .answer2 .given .1)) (c .number-of .ensures)
 
 pub removed-spec : {M : Type 1} → statement M
 removed-spec =

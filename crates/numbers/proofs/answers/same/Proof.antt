@@ -24,7 +24,7 @@ returns-2 : tie.Need-returns-2
 returns-2 c = accepted _ _ _ _ _ (ap saidSame (c .before .enum-told2 .given .1))
 
 returns-3 : tie.Need-returns-3
-returns-3 c = refused _ _ (c .before .before .answer .given .0 .0) _ _ (ap saidSame (c .before .before .answer .given .1)) (c .number-of .ensures)
+returns-3 c = refused _ _ (c .before .before .answer .given .0 .0) _ _ _ _ (ap saidSame (c .before .before .answer .given .1)) (c .number-of .ensures)
 
 pub same-spec : {M : Type 1} → statement M
 same-spec =

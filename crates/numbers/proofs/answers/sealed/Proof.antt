@@ -18,7 +18,7 @@ returns : tie.Need-returns
 returns c = accepted _ _ _ _ _ (ap saidSeal (c .before .before .answer .given .1))
 
 returns-2 : tie.Need-returns-2
-returns-2 c = refused _ _ (c .before .before .answer2 .given .0 .0) _ _ (ap saidSeal (c .before .before .answer2 .given .1)) (c .number-of .ensures)
+returns-2 c = refused _ _ (c .before .before .answer2 .given .0 .0) _ _ _ _ (ap saidSeal (c .before .before .answer2 .given .1)) (c .number-of .ensures)
 
 pub sealed-spec : {M : Type 1} → statement M
 sealed-spec =

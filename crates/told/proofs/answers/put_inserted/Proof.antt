@@ -1,4 +1,5 @@
 -- `lines::answers::put_inserted` meets its contract.
+use mathlib.Core.Bool.{false}
 use mathlib.Core.List.{[]}
 use Rattle.rules.specs.Script.{keyText}
 use Rattle.told.proofs.Texts.{text-refused}
@@ -39,7 +40,7 @@ same-length-2 c = search needs
 returns-2 : tie.Need-returns-2
 returns-2 c =
     rw (c .before .before .before .before .before .answer2 .given .1)
-    (put-same (text-refused keyText (c .before .before .before .before .before .answer2 .given .0 .0) []) (c .before .before .put-refusal .ensures .0), search needs)
+    (put-same (text-refused keyText (c .before .before .before .before .before .answer2 .given .0 .0) false []) (c .before .before .put-refusal .ensures .0), search needs)
 
 pub put-inserted-spec : {M : Type 1} → statement M
 put-inserted-spec =

@@ -1,6 +1,7 @@
 -- `lines::answers::put_joined` meets its contract.
 use Rattle.rules.specs.Script.{unionText}
 use Rattle.told.proofs.Texts.{text-refused}
+use mathlib.Core.Bool.{false}
 use mathlib.Core.List.{[]}
 use Rattle.told.proofs.Puts.{put-then, put-key-then, put-same}
 use borrow.Author.Needs.{needs}
@@ -58,7 +59,7 @@ same-length-2 c = search needs
 returns-2 : tie.Need-returns-2
 returns-2 c =
     rw (c .before .before .before .before .before .answer2 .given .1)
-    (put-same (text-refused unionText (c .before .before .before .before .before .answer2 .given .0 .0) []) (c .before .before .put-refusal .ensures .0), search needs)
+    (put-same (text-refused unionText (c .before .before .before .before .before .answer2 .given .0 .0) false []) (c .before .before .put-refusal .ensures .0), search needs)
 
 pub put-joined-spec : {M : Type 1} → statement M
 put-joined-spec =

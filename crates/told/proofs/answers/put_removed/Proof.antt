@@ -56,7 +56,7 @@ same-length-3 c = search needs
 returns-3 : tie.Need-returns-3
 returns-3 c =
     rw (c .before .before .before .before .before .answer2 .given .1)
-    (put-same (text-refused removeText (c .before .before .before .before .before .answer2 .given .0 .0) []) (c .before .before .put-refusal .ensures .0), search needs)
+    (put-same (text-refused removeText (c .before .before .before .before .before .answer2 .given .0 .0) (c .before .before .before .before .before .before .before .before .args .over) []) (c .before .before .put-refusal .ensures .0), search needs)
 
 pub put-removed-spec : {M : Type 1} → statement M
 put-removed-spec =

@@ -1,4 +1,5 @@
 -- `lines::answers::put_ring` meets its contract.
+use mathlib.Core.Bool.{false}
 use Rattle.told.proofs.Texts.{text-refused}
 use Rattle.told.proofs.Puts.{put-then, put-same}
 use Rattle.rules.specs.Script.{ringText}
@@ -48,7 +49,7 @@ same-length-2 c = search needs
 returns-2 : tie.Need-returns-2
 returns-2 c =
     rw (c .before .before .before .before .before .answer2 .given .1)
-    (put-same (text-refused ringText (c .before .before .before .before .before .answer2 .given .0 .0) (c .before .before .before .before .before .before .before .before .before .args .keys .now)) (c .before .before .put-refusal .ensures .0), search needs)
+    (put-same (text-refused ringText (c .before .before .before .before .before .answer2 .given .0 .0) false (c .before .before .before .before .before .before .before .before .before .args .keys .now)) (c .before .before .put-refusal .ensures .0), search needs)
 
 pub put-ring-spec : {M : Type 1} → statement M
 put-ring-spec =

@@ -1,0 +1,72 @@
+-- No second result, head, tables, buffer and `out` fit what an entry promises.
+use Prim.Native.Nat.{ℕ}
+use mathlib.Core.Path.{_≡_, sym, ap, _∙_}
+use mathlib.Core.List.{List, []}
+use lib.ListN.{length}
+use Rattle.rules.specs.declared.Head.{Head}
+use Rattle.rules.specs.Refusals.{Said}
+use Rattle.rules.specs.Calls.{Call}
+use Rattle.rules.proofs.Door
+use Rattle.numbers.proofs.Nine.{only-nine}
+use Rattle.host.specs.Host.{Left, left, shown, AtHost, AtFresh}
+use Rattle.host.specs.InPlace.{leftAt, AtHead}
+
+-- equal in all that a host lent or was given: the result, the head, both tables, the buffer and `out`
+pub record Same {H : Type 0} (r r′ : ℕ) (h h′ : H) (e e′ s s′ l l′ o o′ : List ℕ) : Type 0 where
+  pub result : r ≡ r′
+  pub head : h ≡ h′
+  pub elems : e ≡ e′
+  pub shared : s ≡ s′
+  pub lent : l ≡ l′
+  pub out : o ≡ o′
+
+-- what is left tells each of them
+told : (a b : Left) → a ≡ b → Same (a .number) (b .number) (a .state .head) (b .state .head) (a .state .elems) (b .state .elems) (a .state .shared) (b .state .shared) (a .lent) (b .lent) (a .out) (b .out)
+told a b q = record {
+  result = ap (λ (t : Left). t .number) q;
+  head = ap (λ (t : Left). t .state .head) q;
+  elems = ap (λ (t : Left). t .state .elems) q;
+  shared = ap (λ (t : Left). t .state .shared) q;
+  lent = ap (λ (t : Left). t .lent) q;
+  out = ap (λ (t : Left). t .out) q;
+}
+
+-- and each of the nine numbers of a head
+told-nine : (r r′ : ℕ) (h h′ e e′ s s′ l l′ o o′ : List ℕ) → length h ≡ 9 → length h′ ≡ 9 → left r h e s l o ≡ left r′ h′ e′ s′ l′ o′ → Same r r′ h h′ e e′ s s′ l l′ o o′
+told-nine r r′ h h′ e e′ s s′ l l′ o o′ n n′ q =
+    let t = told (left r h e s l o) (left r′ h′ e′ s′ l′ o′) q in
+    record {
+      result = t .result;
+      head = only-nine h h′ n n′ (t .head);
+      elems = t .elems;
+      shared = t .shared;
+      lent = t .lent;
+      out = t .out;
+    }
+
+-- an entry over a head of nine numbers
+module _ (c : Call) (numbers : Said → List ℕ) (head elems shared lent out : List ℕ) where
+  pub only : (a b : Left) → AtHost c numbers head elems shared lent out a → AtHost c numbers head elems shared lent out b → a ≡ b
+  only a b p q = p .same ∙ ap (shown numbers out) (Door.only _ lent c (p .outcome) (q .outcome) (p .door) (q .door)) ∙ sym (q .same)
+
+  pub only-at-host : (r r′ : ℕ) (h h′ e e′ s s′ l l′ o o′ : List ℕ) → length h ≡ 9 → length h′ ≡ 9
+      → AtHost c numbers head elems shared lent out (left r h e s l o)
+      → AtHost c numbers head elems shared lent out (left r′ h′ e′ s′ l′ o′)
+      → Same r r′ h h′ e e′ s s′ l l′ o o′
+  only-at-host r r′ h h′ e e′ s s′ l l′ o o′ n n′ p q = told-nine r r′ h h′ e e′ s s′ l l′ o o′ n n′ (only _ _ p q)
+
+-- fresh, which has no buffer and no `out`
+pub only-at-fresh : (elemCapacity sharedCapacity : ℕ) (head elems shared : List ℕ) (r r′ : ℕ) (h h′ e e′ s s′ l l′ o o′ : List ℕ) → length h ≡ 9 → length h′ ≡ 9
+    → AtFresh elemCapacity sharedCapacity head elems shared (left r h e s l o)
+    → AtFresh elemCapacity sharedCapacity head elems shared (left r′ h′ e′ s′ l′ o′)
+    → Same r r′ h h′ e e′ s s′ l l′ o o′
+only-at-fresh elemCapacity sharedCapacity head elems shared r r′ h h′ e e′ s s′ l l′ o o′ n n′ p q = told-nine r r′ h h′ e e′ s s′ l l′ o o′ n n′ (p .same ∙ sym (q .same))
+
+-- an entry over a head lent in place, which has no buffer
+pub only-at-head : (c : Call) (numbers : Said → List ℕ) (head : Head) (elems shared out : List ℕ) (r r′ : ℕ) (h h′ : Head) (e e′ s s′ o o′ : List ℕ)
+    → AtHead c numbers head elems shared out (leftAt r h e s o)
+    → AtHead c numbers head elems shared out (leftAt r′ h′ e′ s′ o′)
+    → Same r r′ h h′ e e′ s s′ [] [] o o′
+only-at-head c numbers head elems shared out r r′ h h′ e e′ s s′ o o′ p q =
+    told (leftAt r h e s o) (leftAt r′ h′ e′ s′ o′)
+    (p .same ∙ ap (shown numbers out) (Door.only _ [] c (p .outcome) (q .outcome) (p .door) (q .door)) ∙ sym (q .same))

@@ -1,0 +1,81 @@
+-- Demand 3 for what a host calls: any sequence of C entries over one lent head and its two tables.
+use Prim.Native.Nat.{ℕ}
+use mathlib.Core.Logic.{_≢_}
+use mathlib.Core.Bool.{false}
+use mathlib.Core.List.{List, []}
+use Rattle.rules.specs.declared.Key.{Key}
+use Rattle.rules.specs.Tables.{State, stateOf}
+use Rattle.rules.specs.Refusals.{Said}
+use Rattle.rules.specs.Calls.{Call, lenSurject, inSameSurject, getElement, getShared, setElement, setShared, check, newRun, insert, union, remove, removeShared, list, drain, seal, drainAll, clear, exchange, compress}
+use Rattle.rules.specs.History.{History, noted, notedFresh, nothing}
+use Rattle.rules.specs.Demand.{Agrees, Union}
+use Rattle.numbers.specs.Numbers.{headOf, values, valuesOver, removalNumbers}
+use Rattle.host.specs.Host.{Left, left, AtHost, AtFresh}
+use Rattle.host.specs.InPlace.{leftAt, AtHead}
+
+-- the numbers that the entry of a call writes to `out`
+abbrev pub numbersOf : Call → Said → List ℕ
+numbersOf (remove k) = removalNumbers
+numbersOf (removeShared k) = valuesOver
+numbersOf clear = valuesOver
+numbersOf (compress reset) = valuesOver
+numbersOf (newRun payload value) = values
+numbersOf (insert k payload) = values
+numbersOf (union j k) = values
+numbersOf (drain k) = values
+numbersOf (seal k) = values
+numbersOf drainAll = values
+numbersOf (list k) = values
+numbersOf (lenSurject k) = values
+numbersOf (inSameSurject j k) = values
+numbersOf (getElement k) = values
+numbersOf (getShared k) = values
+numbersOf (setElement k payload) = values
+numbersOf (setShared k value) = values
+numbersOf (exchange keys news) = values
+numbersOf check = values
+
+-- what a host is told: an entry's result, and the numbers in `out`
+abbrev pub heard : (number : ℕ) → (out : List ℕ) → Said
+heard number out = record { number = number; values = out; over = false }
+
+-- the state that a lent head and tables are
+abbrev pub lentState : (head elems shared : List ℕ) → State
+lentState head elems shared = stateOf (headOf head) elems shared
+
+-- Start from tables that fresh accepts, whatever they held, and hand head and tables on unaltered from entry to entry, refused ones included.
+-- The history is noted from the calls and what the host is told, and from nothing else. A head lent in place is the one that its nine numbers are.
+pub data AfterEntries : (head elems shared : List ℕ) → History → Type 0 where
+  begun : (elemCapacity sharedCapacity : ℕ) (head elems shared head′ elems′ shared′ : List ℕ)
+      → AtFresh elemCapacity sharedCapacity head elems shared (left 0 head′ elems′ shared′ [] [])
+      → AfterEntries head′ elems′ shared′ nothing
+  freshened : {head elems shared : List ℕ} {h : History} → AfterEntries head elems shared h
+      → (elemCapacity sharedCapacity r : ℕ) (head′ elems′ shared′ : List ℕ)
+      → AtFresh elemCapacity sharedCapacity head elems shared (left r head′ elems′ shared′ [] [])
+      → AfterEntries head′ elems′ shared′ (notedFresh h (heard r []))
+  called : {head elems shared : List ℕ} {h : History} → AfterEntries head elems shared h
+      → (c : Call) (lent out : List ℕ) (r : ℕ) (head′ elems′ shared′ lent′ out′ : List ℕ)
+      → AtHost c (numbersOf c) head elems shared lent out (left r head′ elems′ shared′ lent′ out′)
+      → AfterEntries head′ elems′ shared′ (noted h c (heard r out′))
+  calledInPlace : {head elems shared : List ℕ} {h : History} → AfterEntries head elems shared h
+      → (c : Call) (out : List ℕ) (r : ℕ) (head′ elems′ shared′ out′ : List ℕ)
+      → AtHead c (numbersOf c) (headOf head) elems shared out (leftAt r (headOf head′) elems′ shared′ out′)
+      → AfterEntries head′ elems′ shared′ (noted h c (heard r out′))
+
+pub record Demand3AtHost : Type 0 where
+  -- no entry but fresh answers 1 or 2: what follows is of the calls, and not of refusals
+  pub passes : (head elems shared : List ℕ) (h : History) → AfterEntries head elems shared h
+      → (c : Call) (numbers : Said → List ℕ) (lent out : List ℕ) (after : Left)
+      → AtHost c numbers head elems shared lent out after
+      → (after .number ≢ 1) × (after .number ≢ 2)
+  pub passesInPlace : (head elems shared : List ℕ) (h : History) → AfterEntries head elems shared h
+      → (c : Call) (numbers : Said → List ℕ) (out : List ℕ) (after : Left)
+      → AtHead c numbers (headOf head) elems shared out after
+      → (after .number ≢ 1) × (after .number ≢ 2)
+  -- rings, headers, walks and counts: the head and the tables as they lie agree with the history
+  pub rings : (head elems shared : List ℕ) (h : History) → AfterEntries head elems shared h → Agrees (lentState head elems shared) h
+  -- a union that answers 0 rewrites exactly the smaller run, and `out` says how many class entries
+  pub unions : (head elems shared : List ℕ) (h : History) → AfterEntries head elems shared h
+      → (j k : Key) (lent out head′ elems′ shared′ lent′ out′ : List ℕ)
+      → AtHost (union j k) (numbersOf (union j k)) head elems shared lent out (left 0 head′ elems′ shared′ lent′ out′)
+      → Union (lentState head elems shared) h j k (record { said = heard 0 out′; state = lentState head′ elems′ shared′; lent = lent′ })

@@ -1,0 +1,124 @@
+-- Numbers given on refusal, once more and apart from the rules: the sentence of each number over any call. The rules give it exactly then (proofs/Exactly).
+use Prim.Native.Nat.{ℕ, _*_, _<_}
+use mathlib.Core.Path.{_≡_}
+use mathlib.Core.Logic.{_⊎_}
+use mathlib.Core.Bool.{Bool, true, false}
+use mathlib.Core.List.{List, [], _∷_}
+use lib.Dec.{T}
+use lib.ListN.{length}
+use Rattle.rules.specs.declared.Pool.{Pool}
+use Rattle.rules.specs.declared.Key.{Key}
+use Rattle.rules.specs.declared.Refusal.{Refusal}
+use Rattle.rules.specs.declared.Refusal.the-variants.{Shape, Unsound, Dead, SameClass, NoElement, NoShared, Short, Malformed, Sealed}
+use Rattle.rules.specs.Tables.{frameWidth, classOf, State, LiveKey, sizeAt, isSealed}
+use Rattle.rules.specs.Sound.{Sound}
+use Rattle.rules.specs.Refusals.{shaped}
+use Rattle.rules.specs.Drains.{keyWidth, recordWidth}
+use Rattle.rules.specs.Seals.{sealWidth}
+use Rattle.rules.specs.Calls.{Call, lenSurject, inSameSurject, getElement, getShared, setElement, setShared, check, newRun, insert, union, remove, removeShared, list, drain, seal, drainAll, clear, exchange, compress}
+
+-- one of these, two of these, none of these
+abbrev pub Some : {A : Type 0} → (A → Type 0) → List A → Type 0
+Some P [] = ⊥
+Some P (x ∷ xs) = P x ⊎ Some P xs
+
+abbrev pub Two : {A : Type 0} → (A → A → Type 0) → List A → Type 0
+Two P [] = ⊥
+Two P (x ∷ xs) = Some (P x) xs ⊎ Two P xs
+
+abbrev pub None : {A : Type 0} → (A → Type 0) → List A → Type 0
+None P [] = Unit {0}
+None P (x ∷ xs) = (P x → ⊥) × None P xs
+
+-- What a call asks for
+pub record Asks : Type 0 where
+  -- 3: the keys handed in; 4: whether two of them may not be in one class
+  pub keys : List Key
+  pub apart : Bool
+  -- 12: whether no run of theirs may be sealed
+  pub unsealed : Bool
+  -- 6 and 5: whether a shared slot is needed, and an element slot
+  pub shared : Bool
+  pub element : Bool
+  -- 7: how many numbers the lent output or scratch must have
+  pub numbers : ℕ
+
+abbrev pub onKeys : List Key → Asks
+onKeys keys = record { keys = keys; apart = false; unsealed = false; shared = false; element = false; numbers = 0 }
+
+abbrev pub onKeysApart : List Key → Asks
+onKeysApart keys = record { keys = keys; apart = true; unsealed = false; shared = false; element = false; numbers = 0 }
+
+abbrev pub joining : List Key → Asks
+joining keys = record { keys = keys; apart = true; unsealed = true; shared = false; element = false; numbers = 0 }
+
+abbrev pub takingSlots : List Key → (shared : Bool) → Asks
+takingSlots keys shared = record { keys = keys; apart = false; unsealed = true; shared = shared; element = true; numbers = 0 }
+
+abbrev pub writing : List Key → (numbers : ℕ) → Asks
+writing keys numbers = record { keys = keys; apart = false; unsealed = false; shared = false; element = false; numbers = numbers }
+
+abbrev pub sealing : List Key → (numbers : ℕ) → Asks
+sealing keys numbers = record { keys = keys; apart = false; unsealed = true; shared = false; element = false; numbers = numbers }
+
+-- Refusals, below the table: listing, draining and sealing need as many places as frames written, compression as many slots as the element capacity
+abbrev pub asks : State → Call → Asks
+asks st (lenSurject k) = onKeys (k ∷ [])
+asks st (inSameSurject j k) = onKeys (j ∷ k ∷ [])
+asks st (getElement k) = onKeys (k ∷ [])
+asks st (getShared k) = onKeys (k ∷ [])
+asks st (setElement k payload) = onKeys (k ∷ [])
+asks st (setShared k value) = onKeys (k ∷ [])
+asks st check = onKeys []
+asks st (newRun payload value) = takingSlots [] true
+asks st (insert k payload) = takingSlots (k ∷ []) false
+asks st (union j k) = joining (j ∷ k ∷ [])
+asks st (remove k) = onKeys (k ∷ [])
+asks st (removeShared k) = onKeys (k ∷ [])
+asks st (list k) = writing (k ∷ []) (sizeAt st (k .slot) * keyWidth)
+asks st (drain k) = writing (k ∷ []) (sizeAt st (k .slot) * recordWidth)
+asks st (seal k) = sealing (k ∷ []) (sizeAt st (k .slot) * sealWidth)
+asks st drainAll = writing [] (st .head .elems .live * recordWidth)
+asks st clear = onKeys []
+asks st (exchange keys values) = onKeysApart keys
+asks st (compress reset) = writing [] (st .head .elems .capacity * frameWidth)
+
+-- 5 and 6: the free root is 0 and extent equals capacity
+abbrev pub Full : Pool → Type 0
+Full p = (p .root ≡ 0) × (p .extent ≡ p .capacity)
+
+-- 4: two keys in one class
+abbrev pub OneClass : State → (j k : Key) → Type 0
+OneClass st j k = classOf (st .elems) (j .slot) ≡ classOf (st .elems) (k .slot)
+
+-- Refusals 1 to 8, the table; Ticket 1: 12
+abbrev pub Sentence : State → (lent : List ℕ) → Asks → Refusal → Type 0
+Sentence st lent a Shape = shaped st ≡ false
+Sentence st lent a Unsound = Sound st → ⊥
+Sentence st lent a Dead = Some (λ k. LiveKey st k → ⊥) (a .keys)
+Sentence st lent a SameClass = T (a .apart) × Two (OneClass st) (a .keys)
+Sentence st lent a NoElement = T (a .element) × Full (st .head .elems)
+Sentence st lent a NoShared = T (a .shared) × Full (st .head .shared)
+Sentence st lent a Short = length lent < a .numbers
+Sentence st lent a Malformed = ⊥
+Sentence st lent a Sealed = T (a .unsealed) × Some (λ k. T (isSealed st (k .slot))) (a .keys)
+
+-- Refusals, order: 1, 2, 3, 4, 12 (Ticket 1), 6, 5, 7; 8 is the script program's alone
+abbrev pub earlier : Refusal → List Refusal
+earlier Shape = []
+earlier Unsound = Shape ∷ []
+earlier Dead = Shape ∷ Unsound ∷ []
+earlier SameClass = Shape ∷ Unsound ∷ Dead ∷ []
+earlier Sealed = Shape ∷ Unsound ∷ Dead ∷ SameClass ∷ []
+earlier NoShared = Shape ∷ Unsound ∷ Dead ∷ SameClass ∷ Sealed ∷ []
+earlier NoElement = Shape ∷ Unsound ∷ Dead ∷ SameClass ∷ Sealed ∷ NoShared ∷ []
+earlier Short = Shape ∷ Unsound ∷ Dead ∷ SameClass ∷ Sealed ∷ NoShared ∷ NoElement ∷ []
+earlier Malformed = []
+
+-- its sentence holds, and that of no earlier number
+abbrev pub Given : State → (lent : List ℕ) → Call → Refusal → Type 0
+Given st lent c r = Sentence st lent (asks st c) r × None (Sentence st lent (asks st c)) (earlier r)
+
+-- and a call is accepted, if no sentence holds
+abbrev pub Accepted : State → (lent : List ℕ) → Call → Type 0
+Accepted st lent c = None (Sentence st lent (asks st c)) (Shape ∷ Unsound ∷ Dead ∷ SameClass ∷ Sealed ∷ NoShared ∷ NoElement ∷ Short ∷ [])

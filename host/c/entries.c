@@ -1,0 +1,323 @@
+/* Every entry of doorsedge.h, called from C: an accepted call and a refused one, with what it answers and leaves. Built and
+   run by host/c/run.sh; tools/check-header fails where an entry is not called here. */
+#include "doorsedge.h"
+
+#include <inttypes.h>
+#include <stdio.h>
+#include <string.h>
+
+#define FRAMES 5
+#define RUNS 4
+#define ELEMS DOORSEDGE_ELEMS_LEN(FRAMES)
+#define SHARED DOORSEDGE_SHARED_LEN(RUNS)
+#define UNTOUCHED UINT64_C(77)
+
+static uint64_t head[DOORSEDGE_HEAD], elems[ELEMS], shared[SHARED], out[4], places[DOORSEDGE_LIST_LEN(FRAMES)],
+    records[DOORSEDGE_DRAIN_LEN(FRAMES)], scratch[DOORSEDGE_SCRATCH_LEN(FRAMES)];
+
+/* Head and tables, as every entry takes them. */
+#define STATE head, elems, ELEMS, shared, SHARED
+
+static int tried, failed;
+
+static void is(int line, const char *what, uint64_t got, uint64_t want) {
+    tried++;
+    if (got != want) {
+        failed++;
+        printf("entries.c:%d: %s is %" PRIu64 ", expected %" PRIu64 "\n", line, what, got, want);
+    }
+}
+#define IS(what, want) is(__LINE__, #what, (what), (want))
+
+/* The first numbers of `at` are these. */
+static void holds(int line, const char *what, const uint64_t *at, const uint64_t *want, size_t count) {
+    for (size_t i = 0; i < count; i++)
+        is(line, what, at[i], want[i]);
+}
+#define HOLDS(at, ...)                                                                                                 \
+    holds(__LINE__, #at, (at), (const uint64_t[]){__VA_ARGS__}, sizeof((const uint64_t[]){__VA_ARGS__}) / sizeof(uint64_t))
+
+static void fill(uint64_t *at, size_t count) {
+    for (size_t i = 0; i < count; i++)
+        at[i] = UNTOUCHED;
+}
+
+/* What a refused call may not change, kept before it. */
+static uint64_t kept[DOORSEDGE_HEAD + ELEMS + SHARED];
+
+static void keep(uint64_t *to) {
+    memcpy(to, head, sizeof head);
+    memcpy(to + DOORSEDGE_HEAD, elems, sizeof elems);
+    memcpy(to + DOORSEDGE_HEAD + ELEMS, shared, sizeof shared);
+}
+
+/* The call is refused so, and head, tables and `out` are as they were. */
+static uint64_t mark_out(void) {
+    fill(out, 4);
+    keep(kept);
+    return 0;
+}
+
+static void refused(int line, const char *what, uint64_t got, uint64_t want) {
+    uint64_t now[sizeof kept / sizeof *kept];
+    is(line, what, got, want);
+    keep(now);
+    is(line, "head and tables after a refusal", memcmp(now, kept, sizeof kept) != 0, 0);
+    for (int i = 0; i < 4; i++)
+        is(line, "out after a refusal", out[i], UNTOUCHED);
+}
+#define REFUSED(call, want) (mark_out(), refused(__LINE__, #call, (call), (want)))
+
+/* Slots 1, 3, 2 in a ring under 100, and 4 under 200; one slot and two headers are free. */
+static void two_runs(void) {
+    IS(doorsedge_fresh(head, FRAMES, RUNS, elems, ELEMS, shared, SHARED), DOORSEDGE_OK);
+    IS(doorsedge_insert_surject(STATE, 10, 100, out), DOORSEDGE_OK);
+    HOLDS(out, 1, 1);
+    IS(doorsedge_insert(STATE, 1, 1, 11, out), DOORSEDGE_OK);
+    HOLDS(out, 2, 1);
+    IS(doorsedge_insert(STATE, 1, 1, 12, out), DOORSEDGE_OK);
+    HOLDS(out, 3, 1);
+    IS(doorsedge_insert_surject(STATE, 20, 200, out), DOORSEDGE_OK);
+    HOLDS(out, 4, 1);
+    fill(out, 4);
+}
+
+static void fresh_and_check(void) {
+    fill(head, DOORSEDGE_HEAD);
+    fill(elems, ELEMS);
+    fill(shared, SHARED);
+    REFUSED(doorsedge_check(STATE), DOORSEDGE_SHAPE);
+    REFUSED(doorsedge_fresh(head, FRAMES + 1, RUNS, elems, ELEMS, shared, SHARED), DOORSEDGE_SHAPE);
+    IS(doorsedge_fresh(head, FRAMES, RUNS, elems, ELEMS, shared, SHARED), DOORSEDGE_OK);
+    HOLDS(head, FRAMES, 0, 0, 0, RUNS, 0, 0, 0, 1);
+    IS(doorsedge_check(STATE), DOORSEDGE_OK);
+    head[DOORSEDGE_ELEMS_LIVE]++;
+    REFUSED(doorsedge_check(STATE), DOORSEDGE_UNSOUND);
+}
+
+static void reads(void) {
+    two_runs();
+    IS(doorsedge_len_surject(STATE, 3, 1, out), DOORSEDGE_OK);
+    HOLDS(out, 3, UNTOUCHED);
+    REFUSED(doorsedge_len_surject(STATE, 3, 2, out), DOORSEDGE_DEAD);
+    IS(doorsedge_in_same_surject(STATE, 3, 1, 1, 1, out), DOORSEDGE_OK);
+    HOLDS(out, 1, UNTOUCHED);
+    IS(doorsedge_in_same_surject(STATE, 3, 1, 4, 1, out), DOORSEDGE_OK);
+    HOLDS(out, 0, UNTOUCHED);
+    REFUSED(doorsedge_in_same_surject(STATE, 3, 1, 5, 1, out), DOORSEDGE_DEAD);
+    IS(doorsedge_get(STATE, 3, 1, out), DOORSEDGE_OK);
+    HOLDS(out, 12, UNTOUCHED);
+    REFUSED(doorsedge_get(STATE, 0, 1, out), DOORSEDGE_DEAD);
+    IS(doorsedge_get_shared(STATE, 3, 1, out), DOORSEDGE_OK);
+    HOLDS(out, 100, UNTOUCHED);
+    REFUSED(doorsedge_get_shared(STATE, 6, 1, out), DOORSEDGE_DEAD);
+    fill(places, DOORSEDGE_LIST_LEN(FRAMES));
+    REFUSED(doorsedge_list(STATE, 3, 1, places, DOORSEDGE_LIST_LEN(3) - 1, out), DOORSEDGE_SHORT);
+    HOLDS(places, UNTOUCHED);
+    IS(doorsedge_list(STATE, 3, 1, places, DOORSEDGE_LIST_LEN(FRAMES), out), DOORSEDGE_OK);
+    HOLDS(out, 3, UNTOUCHED);
+    HOLDS(places, 3, 1, 2, 1, 1, 1, UNTOUCHED);
+}
+
+static void sets(void) {
+    two_runs();
+    IS(doorsedge_set(STATE, 3, 1, 13, out), DOORSEDGE_OK);
+    HOLDS(out, 12, UNTOUCHED);
+    IS(elems[2 * DOORSEDGE_FRAME + DOORSEDGE_FRAME_PAYLOAD], 13);
+    REFUSED(doorsedge_set(STATE, 3, 2, 14, out), DOORSEDGE_DEAD);
+    IS(doorsedge_set_shared(STATE, 3, 1, 101, out), DOORSEDGE_OK);
+    HOLDS(out, 100, UNTOUCHED);
+    IS(shared[DOORSEDGE_HEADER_VALUE], 101);
+    REFUSED(doorsedge_set_shared(STATE, 3, 2, 102, out), DOORSEDGE_DEAD);
+}
+
+static void exchange(void) {
+    const uint64_t keys[8] = {3, 1, 1, 1, 4, 1, 2, 1}, twice[8] = {3, 1, 1, 1, 3, 1, 2, 1}, values[4] = {1, 2, 3, 4};
+    IS(doorsedge_fresh(head, FRAMES, RUNS, elems, ELEMS, shared, SHARED), DOORSEDGE_OK);
+    for (uint64_t n = 1; n <= 4; n++)
+        IS(doorsedge_insert_surject(STATE, n, 100 * n, out), DOORSEDGE_OK);
+    IS(doorsedge_exchange_shared4(STATE, keys, values, out), DOORSEDGE_OK);
+    HOLDS(out, 300, 100, 400, 200);
+    HOLDS(shared, 1, 2, 0, 1, 4, 0, 1, 1, 0, 1, 3, 0);
+    REFUSED(doorsedge_exchange_shared4(STATE, twice, values, out), DOORSEDGE_SAME_CLASS);
+}
+
+static void frames_in(void) {
+    two_runs();
+    REFUSED(doorsedge_insert(STATE, 4, 2, 21, out), DOORSEDGE_DEAD);
+    IS(doorsedge_insert(STATE, 4, 1, 21, out), DOORSEDGE_OK);
+    HOLDS(out, 5, 1, UNTOUCHED);
+    REFUSED(doorsedge_insert(STATE, 4, 1, 22, out), DOORSEDGE_NO_ELEMENT);
+    REFUSED(doorsedge_insert_surject(STATE, 30, 300, out), DOORSEDGE_NO_ELEMENT);
+    REFUSED(doorsedge_union(STATE, 4, 1, 5, 1, out), DOORSEDGE_SAME_CLASS);
+    IS(doorsedge_union(STATE, 4, 1, 1, 1, out), DOORSEDGE_OK);
+    HOLDS(out, 200, 1, 1, 2);
+}
+
+/* A run for each header: the fifth is refused for want of one, though a frame's slot is free. */
+static void no_shared(void) {
+    IS(doorsedge_fresh(head, FRAMES, RUNS, elems, ELEMS, shared, SHARED), DOORSEDGE_OK);
+    for (uint64_t n = 1; n <= RUNS; n++)
+        IS(doorsedge_insert_surject(STATE, n, 100 * n, out), DOORSEDGE_OK);
+    REFUSED(doorsedge_insert_surject(STATE, 5, 500, out), DOORSEDGE_NO_SHARED);
+}
+
+static void frames_out(void) {
+    two_runs();
+    IS(doorsedge_remove_element(STATE, 1, 1, out), DOORSEDGE_OK);
+    HOLDS(out, 10, 0, 0, 0);
+    REFUSED(doorsedge_remove_element(STATE, 1, 1, out), DOORSEDGE_DEAD);
+    head[DOORSEDGE_GENERATION] = DOORSEDGE_LAST_GENERATION;
+    IS(doorsedge_remove_element(STATE, 4, 1, out), DOORSEDGE_OK);
+    HOLDS(out, 20, 1, 200, 1);
+    IS(head[DOORSEDGE_GENERATION], 1);
+    fill(out, 4);
+    IS(doorsedge_remove_shared(STATE, 3, 1, out), DOORSEDGE_OK);
+    HOLDS(out, 100, 0, UNTOUCHED);
+    REFUSED(doorsedge_remove_shared(STATE, 3, 1, out), DOORSEDGE_DEAD);
+    IS(head[DOORSEDGE_ELEMS_LIVE], 0);
+}
+
+static void drains(void) {
+    two_runs();
+    fill(records, DOORSEDGE_DRAIN_LEN(FRAMES));
+    REFUSED(doorsedge_drain(STATE, 3, 1, records, DOORSEDGE_DRAIN_LEN(3) - 1, out), DOORSEDGE_SHORT);
+    HOLDS(records, UNTOUCHED);
+    IS(doorsedge_drain(STATE, 3, 1, records, DOORSEDGE_DRAIN_LEN(FRAMES), out), DOORSEDGE_OK);
+    HOLDS(out, 3, UNTOUCHED);
+    HOLDS(records, 3, 1, 12, 0, 0, 0, 2, 1, 11, 0, 0, 0, 1, 1, 10, 1, 100, 0, UNTOUCHED);
+    two_runs();
+    REFUSED(doorsedge_drain_all(STATE, records, DOORSEDGE_DRAIN_LEN(4) - 1, out), DOORSEDGE_SHORT);
+    IS(doorsedge_drain_all(STATE, records, DOORSEDGE_DRAIN_LEN(4), out), DOORSEDGE_OK);
+    HOLDS(out, 4, UNTOUCHED);
+    HOLDS(records, 1, 1, 10, 0, 0, 0, 3, 1, 12, 0, 0, 0, 2, 1, 11, 1, 100, 0, 4, 1, 20, 1, 200, 0, UNTOUCHED);
+    HOLDS(head, FRAMES, 0, 0, 0, RUNS, 0, 0, 0, 6);
+}
+
+static void clear_and_compress(void) {
+    two_runs();
+    IS(doorsedge_remove_element(STATE, 1, 1, out), DOORSEDGE_OK);
+    fill(out, 4);
+    fill(scratch, DOORSEDGE_SCRATCH_LEN(FRAMES));
+    REFUSED(doorsedge_compress_canonical(STATE, 0, scratch, DOORSEDGE_SCRATCH_LEN(FRAMES) - 1, out), DOORSEDGE_SHORT);
+    HOLDS(scratch, UNTOUCHED);
+    IS(doorsedge_compress_canonical(STATE, 0, scratch, DOORSEDGE_SCRATCH_LEN(FRAMES), out), DOORSEDGE_OK);
+    HOLDS(out, 0, UNTOUCHED);
+    HOLDS(scratch, 0);
+    HOLDS(elems, 3, 11, 1, 2, 2, 3, 12, 1, 1, 1, 3, 20, 2, 3, 3, 0);
+    HOLDS(head, FRAMES, 3, 0, 3, RUNS, 2, 0, 2, 3);
+    IS(doorsedge_clear(STATE, out), DOORSEDGE_OK);
+    HOLDS(out, 0, UNTOUCHED);
+    HOLDS(head, FRAMES, 0, 0, 0, RUNS, 0, 0, 0, 4);
+    head[DOORSEDGE_SHARED_EXTENT] = RUNS + 1;
+    REFUSED(doorsedge_clear(STATE, out), DOORSEDGE_UNSOUND);
+}
+
+/* One head for both kinds of entry: the writer's own struct, and its numbers for the others. */
+static void in_place(void) {
+    struct doorsedge_lent_head own;
+    uint64_t *numbers = (uint64_t *)&own;
+    IS(sizeof own, DOORSEDGE_HEAD * sizeof(uint64_t));
+    IS(doorsedge_fresh(numbers, FRAMES, RUNS, elems, ELEMS, shared, SHARED), DOORSEDGE_OK);
+    IS(doorsedge_insert_surject(numbers, elems, ELEMS, shared, SHARED, 10, 100, out), DOORSEDGE_OK);
+    IS(own.elems.live, 1);
+    IS(doorsedge_insert_in_place(&own, elems, ELEMS, shared, SHARED, 1, 1, 11, out), DOORSEDGE_OK);
+    HOLDS(out, 2, 1);
+    IS(own.elems.extent, 2);
+    IS(doorsedge_len_surject(numbers, elems, ELEMS, shared, SHARED, 2, 1, out), DOORSEDGE_OK);
+    HOLDS(out, 2);
+    REFUSED(doorsedge_insert_in_place(&own, elems, ELEMS, shared, SHARED, 9, 1, 12, out), DOORSEDGE_DEAD);
+    IS(doorsedge_remove_in_place(&own, elems, ELEMS, shared, SHARED, 1, 1, out), DOORSEDGE_OK);
+    HOLDS(out, 10, 0, 0, 0);
+    IS(own.generation, 2);
+    REFUSED(doorsedge_remove_in_place(&own, elems, ELEMS, shared, SHARED, 1, 1, out), DOORSEDGE_DEAD);
+    IS(numbers[DOORSEDGE_GENERATION], own.generation);
+}
+
+/* NULL with length 0: an empty buffer where none is needed, one too short where it is, and tables of no shape. */
+static void null_with_none(void) {
+    two_runs();
+    REFUSED(doorsedge_list(STATE, 1, 1, NULL, 0, out), DOORSEDGE_SHORT);
+    REFUSED(doorsedge_drain(STATE, 1, 1, NULL, 0, out), DOORSEDGE_SHORT);
+    REFUSED(doorsedge_drain_all(STATE, NULL, 0, out), DOORSEDGE_SHORT);
+    REFUSED(doorsedge_compress_canonical(STATE, 0, NULL, 0, out), DOORSEDGE_SHORT);
+    REFUSED(doorsedge_check(head, NULL, 0, shared, SHARED), DOORSEDGE_SHAPE);
+    REFUSED(doorsedge_check(head, elems, ELEMS, NULL, 0), DOORSEDGE_SHAPE);
+    REFUSED(doorsedge_fresh(head, FRAMES, RUNS, NULL, 0, NULL, 0), DOORSEDGE_SHAPE);
+    REFUSED(doorsedge_fresh(head, 0, 0, NULL, 0, NULL, 0), DOORSEDGE_SHAPE);
+    REFUSED(doorsedge_insert_surject(head, NULL, 0, NULL, 0, 1, 2, out), DOORSEDGE_SHAPE);
+    REFUSED(doorsedge_clear(head, NULL, 0, NULL, 0, out), DOORSEDGE_SHAPE);
+    IS(doorsedge_fresh(head, FRAMES, RUNS, elems, ELEMS, shared, SHARED), DOORSEDGE_OK);
+    fill(out, 4);
+    IS(doorsedge_drain_all(STATE, NULL, 0, out), DOORSEDGE_OK);
+    HOLDS(out, 0, UNTOUCHED);
+    HOLDS(head, FRAMES, 0, 0, 0, RUNS, 0, 0, 0, 2);
+}
+
+/* When an old key comes alive again: not by a removal, but by an overflow, by `fresh` and by a compression with reset. */
+static void old_keys(void) {
+    two_runs();
+    IS(doorsedge_remove_element(STATE, 4, 1, out), DOORSEDGE_OK);
+    IS(doorsedge_insert_surject(STATE, 21, 210, out), DOORSEDGE_OK);
+    HOLDS(out, 4, 2);
+    REFUSED(doorsedge_get(STATE, 4, 1, out), DOORSEDGE_DEAD);
+    head[DOORSEDGE_GENERATION] = DOORSEDGE_LAST_GENERATION;
+    IS(doorsedge_remove_element(STATE, 4, 2, out), DOORSEDGE_OK);
+    HOLDS(out, 21, 1, 210, 1);
+    REFUSED(doorsedge_get(STATE, 4, 1, out), DOORSEDGE_DEAD);
+    IS(doorsedge_insert_surject(STATE, 22, 220, out), DOORSEDGE_OK);
+    IS(doorsedge_get(STATE, 4, 1, out), DOORSEDGE_OK);
+    HOLDS(out, 22);
+    head[DOORSEDGE_GENERATION] = 9;
+    IS(doorsedge_remove_element(STATE, 1, 1, out), DOORSEDGE_OK);
+    IS(doorsedge_compress_canonical(STATE, 1, scratch, DOORSEDGE_SCRATCH_LEN(FRAMES), out), DOORSEDGE_OK);
+    IS(doorsedge_get(STATE, 1, 1, out), DOORSEDGE_OK);
+    HOLDS(out, 11);
+    /* drain_all's closing clear goes over the last generation, and only the head shows it */
+    head[DOORSEDGE_GENERATION] = DOORSEDGE_LAST_GENERATION - 3;
+    IS(doorsedge_drain_all(STATE, records, DOORSEDGE_DRAIN_LEN(FRAMES), out), DOORSEDGE_OK);
+    HOLDS(out, 3);
+    for (uint64_t i = 0; i < 3; i++)
+        IS(records[i * DOORSEDGE_RECORD + DOORSEDGE_RECORD_OVERFLOW], 0);
+    IS(head[DOORSEDGE_GENERATION], 1);
+    IS(doorsedge_fresh(head, FRAMES, RUNS, elems, ELEMS, shared, SHARED), DOORSEDGE_OK);
+    REFUSED(doorsedge_get(STATE, 1, 1, out), DOORSEDGE_DEAD);
+    IS(doorsedge_insert_surject(STATE, 30, 300, out), DOORSEDGE_OK);
+    IS(doorsedge_get(STATE, 1, 1, out), DOORSEDGE_OK);
+    HOLDS(out, 30);
+}
+
+/* A key from before an overflow, whose frame goes after it: it returns when the generation has come round to it. */
+static void key_over_overflow(void) {
+    IS(doorsedge_fresh(head, FRAMES, RUNS, elems, ELEMS, shared, SHARED), DOORSEDGE_OK);
+    head[DOORSEDGE_GENERATION] = DOORSEDGE_LAST_GENERATION;
+    IS(doorsedge_insert_surject(STATE, 10, 100, out), DOORSEDGE_OK);
+    IS(doorsedge_insert(STATE, 1, DOORSEDGE_LAST_GENERATION, 11, out), DOORSEDGE_OK);
+    IS(doorsedge_remove_element(STATE, 2, DOORSEDGE_LAST_GENERATION, out), DOORSEDGE_OK);
+    HOLDS(out, 11, 0, 0, 1);
+    IS(doorsedge_remove_element(STATE, 1, DOORSEDGE_LAST_GENERATION, out), DOORSEDGE_OK);
+    HOLDS(out, 10, 1, 100, 0);
+    REFUSED(doorsedge_get(STATE, 1, DOORSEDGE_LAST_GENERATION, out), DOORSEDGE_DEAD);
+    head[DOORSEDGE_GENERATION] = DOORSEDGE_LAST_GENERATION; /* so many removals later */
+    IS(doorsedge_insert_surject(STATE, 20, 200, out), DOORSEDGE_OK);
+    IS(doorsedge_get(STATE, 1, DOORSEDGE_LAST_GENERATION, out), DOORSEDGE_OK);
+    HOLDS(out, 20);
+}
+
+int main(void) {
+    fresh_and_check();
+    reads();
+    sets();
+    exchange();
+    frames_in();
+    no_shared();
+    frames_out();
+    drains();
+    clear_and_compress();
+    in_place();
+    null_with_none();
+    old_keys();
+    key_over_overflow();
+    printf("host/c/entries: %d of %d as expected\n", tried - failed, tried);
+    return failed != 0;
+}
