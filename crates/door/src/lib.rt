@@ -10,6 +10,7 @@ pub use door_rings::drain;
 pub use door_rings::drain_all;
 pub use door_rings::list;
 pub use door_rings::remove_shared;
+pub use door_rings::seal;
 pub use door_runs::insert;
 pub use door_runs::insert_surject;
 pub use door_runs::remove_element;

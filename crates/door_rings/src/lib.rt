@@ -5,11 +5,12 @@ use rules::Head;
 use rules::HeadNumber;
 use rules::Key;
 use rules::Number;
+use rules::Seal;
 ghost use mathlib.Core.Bool.{false};
 ghost use mathlib.Core.List.{[]};
 ghost use Rattle.rules.specs.Tables.{stateOf};
-ghost use Rattle.rules.specs.Answers.{leaves, saidNumber, afterNumber};
-ghost use Rattle.rules.specs.Calls.{AtDoor, removeShared, list, drain, drainAll};
+ghost use Rattle.rules.specs.Answers.{leaves, saidNumber, saidSeal, afterNumber};
+ghost use Rattle.rules.specs.Calls.{AtDoor, removeShared, list, drain, seal, drainAll};
 
 // Rules 9: list.
 pub fn list(head: Head, elems: &[u64], shared: &[u64], key: Key, out: &mut [u64]) -> Number
@@ -52,6 +53,16 @@ pub fn drain(
             over: false,
         },
         Done::Done => drains::drain(head, elems, shared, key, out),
+    }
+}
+
+// Ticket 1: seal a run.
+pub fn seal(head: Head, elems: &[u64], shared: &mut [u64], key: Key, out: &mut [u64]) -> Seal
+    ensures { λ r. ⌜ AtDoor (stateOf head (now (elems .entry)) (now (shared .entry))) (now (out .entry)) (seal key) (leaves head (now (elems .entry)) (now (shared .exit)) (now (out .exit)) (saidSeal r)) ⌝ }
+{
+    match gate(head, elems, shared) {
+        Done::Refused(n) => Seal::Refused(n),
+        Done::Done => seals::seal(head, elems, shared, key, out),
     }
 }
 

@@ -2,5 +2,6 @@
 mod frames;
 mod in_place;
 mod reads;
+mod seals;
 mod sets;
 mod whole;

@@ -5,7 +5,7 @@ use mathlib.Core.Bool.{Bool}
 use mathlib.Core.List.{List}
 use Rattle.rules.specs.Notation.{if_then_else_, _==_}
 use Rattle.rules.specs.declared.Refusal.{Refusal}
-use Rattle.rules.specs.declared.Refusal.the-variants.{Shape, Unsound, Dead, SameClass, NoElement, NoShared, Short, Malformed}
+use Rattle.rules.specs.declared.Refusal.the-variants.{Shape, Unsound, Dead, SameClass, NoElement, NoShared, Short, Malformed, Sealed}
 use Rattle.rules.specs.Refusals.{numberOf, Said, saidAccepted}
 use Rattle.rules.specs.Answers.{saidBeside}
 use Rattle.numbers.specs.Numbers.{Answered}
@@ -20,6 +20,7 @@ kept NoElement a b = refl
 kept NoShared a b = refl
 kept Short a b = refl
 kept Malformed a b = refl
+kept Sealed a b = refl
 
 pub refused : (numbers : Said → List ℕ) (said : Said) (r : Refusal) (values : List ℕ) (over : Bool) (out : List ℕ) (n : ℕ) → said ≡ saidBeside r values over → n ≡ numberOf r → Answered numbers said out n out
 refused numbers said r values over out n p q = record { number = rw p q; out = rw p (kept r (numbers (saidBeside r values over)) out) }

@@ -7,14 +7,15 @@ use rules::Refusal;
 use rules::Removed;
 use rules::Rest;
 use rules::Same;
+use rules::Seal;
 ghost use mathlib.Core.Path.{_≡_};
 ghost use mathlib.Core.Bool.{Bool};
 ghost use mathlib.Core.List.{[]};
 ghost use Rattle.rules.specs.Refusals.{numberOf};
-ghost use Rattle.rules.specs.Answers.{saidDone, saidNumber, saidSame, saidInserted, saidJoined, saidRemoved, saidOld};
+ghost use Rattle.rules.specs.Answers.{saidDone, saidNumber, saidSame, saidInserted, saidJoined, saidSeal, saidRemoved, saidOld};
 ghost use Rattle.numbers.specs.Numbers.{Answered, flag, values, valuesOver, removalNumbers};
 
-// Refusals 1 to 8.
+// Refusals 1 to 8, and 12.
 pub fn number_of(r: Refusal) -> u64
     ensures { λ n. ⌜ n ≡ numberOf r ⌝ }
 {
@@ -27,6 +28,7 @@ pub fn number_of(r: Refusal) -> u64
         Refusal::NoShared => 6,
         Refusal::Short => 7,
         Refusal::Malformed => 8,
+        Refusal::Sealed => 12,
     }
 }
 
@@ -129,6 +131,19 @@ pub fn joined(answer: Joined, out: &mut [u64; 4]) -> u64
             0
         }
         Joined::Refused(refusal) => number_of(refusal),
+    }
+}
+
+// The header's value and count.
+pub fn sealed(answer: Seal, out: &mut [u64; 2]) -> u64
+    ensures { λ r. ⌜ Answered values (saidSeal answer) (now (out .entry)) r (now (out .exit)) ⌝ }
+{
+    match answer {
+        Seal::Is { value, count } => {
+            *out = [value, count];
+            0
+        }
+        Seal::Refused(refusal) => number_of(refusal),
     }
 }
 

@@ -4,7 +4,7 @@ use mathlib.Core.Path.{_≡_, refl}
 use mathlib.Core.Bool.{Bool}
 use mathlib.Core.List.{List, []}
 use Rattle.rules.specs.declared.Refusal.{Refusal}
-use Rattle.rules.specs.declared.Refusal.the-variants.{Shape, Unsound, Dead, SameClass, NoElement, NoShared, Short, Malformed}
+use Rattle.rules.specs.declared.Refusal.the-variants.{Shape, Unsound, Dead, SameClass, NoElement, NoShared, Short, Malformed, Sealed}
 use Rattle.rules.specs.Refusals.{Outcome, numberOf}
 use Rattle.rules.specs.Answers.{saidBeside}
 use Rattle.rules.specs.Script.{refusedText}
@@ -19,3 +19,4 @@ text-refused print NoElement over lent = refl
 text-refused print NoShared over lent = refl
 text-refused print Short over lent = refl
 text-refused print Malformed over lent = refl
+text-refused print Sealed over lent = refl

@@ -1,0 +1,33 @@
+// The seal: count, frames and mark in one call.
+use numbers::answers;
+use numbers::head::unpack;
+use rules::Key;
+ghost use Rattle.rules.specs.Calls.{seal};
+ghost use Rattle.numbers.specs.Numbers.{values};
+ghost use Rattle.host.specs.Host.{keyOf, AtHost, left};
+
+// Ticket 1: seals the key's run, a place for each of its frames.
+#[no_mangle]
+pub extern "C" fn doorsedge_seal(
+    head: &[u64; 9],
+    elems: &[u64],
+    shared: &mut [u64],
+    slot: u64,
+    generation: u64,
+    places: &mut [u64],
+    out: &mut [u64; 2],
+) -> u64
+    ensures { λ r. ⌜ AtHost (seal (keyOf slot generation)) values (now (head .entry)) (now (elems .entry)) (now (shared .entry)) (now (places .entry)) (now (out .entry)) (left r (now (head .entry)) (now (elems .entry)) (now (shared .exit)) (now (places .exit)) (now (out .exit))) ⌝ }
+{
+    let answer = door::seal(
+        unpack(*head),
+        elems,
+        shared,
+        Key {
+            slot: slot,
+            generation: generation,
+        },
+        places,
+    );
+    answers::sealed(answer, out)
+}

@@ -1,0 +1,2 @@
+-- What a seal writes.
+pub mod Answered
