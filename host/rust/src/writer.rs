@@ -13,7 +13,7 @@ use crate::sys::{self, LentHead};
 /// // one frame, in slot 1, with payload 7, under the shared value 70
 /// let pool = |capacity| Pool { capacity, extent: 1, root: 0, live: 1 };
 /// let mut head = LentHead { elems: pool(2), shared: pool(1), generation: 1 };
-/// let (mut elems, mut shared) = ([1, 7, 1, 1, 1, 0, 0, 0, 0, 0], [1, 70, 0]);
+/// let (mut elems, mut shared) = ([1, 7, 1, 1, 1, 0, 0, 0, 0, 0], [1, 70, 0, 0]);
 ///
 /// let mut writer = Writer { head: &mut head, elems: &mut elems, shared: &mut shared };
 /// let key = writer.insert(Key::new(1, 1), 8)?;
@@ -40,7 +40,8 @@ macro_rules! lend {
 }
 
 impl Writer<'_> {
-    /// Puts a frame into the key's run, immediately after the key's frame.
+    /// Puts a frame into the key's run, immediately after the key's frame. A run that was
+    /// [sealed](crate::Arena::seal) takes none: [Sealed](Refusal::Sealed).
     pub fn insert(&mut self, key: Key, payload: u64) -> Result<Key, Refusal> {
         let mut out = [0; 2];
         lend!(self, doorsedge_insert_in_place, key.slot(), key.generation(), payload, &mut out)?;

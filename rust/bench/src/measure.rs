@@ -82,6 +82,7 @@ pub fn single_calls(n: usize, most: usize) -> Vec<Batch> {
         batch("remove_element", &|i| Call::RemoveElement(keys[i % runs])),
         batch("remove_shared (4)", &|i| Call::RemoveShared(keys[i % runs])),
         batch("list (4)", &|i| Call::List(at(i))),
+        batch("seal (4)", &|i| Call::Seal(keys[i % runs])),
         batch("drain (4)", &|i| Call::Drain(keys[i % runs])),
     ]
 }
@@ -94,6 +95,7 @@ pub fn whole_calls(n: usize) -> Vec<Batch> {
     let batch = |name, bed: Bed, call| Batch { name, bed, calls: vec![call], per: n };
     vec![
         batch("list, one ring", ring(), Call::List(first)),
+        batch("seal, one ring", ring(), Call::Seal(first)),
         batch("drain, one ring", ring(), Call::Drain(first)),
         batch("remove_shared, one ring", ring(), Call::RemoveShared(first)),
         batch("drain_all", rings(), Call::DrainAll),
