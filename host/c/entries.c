@@ -42,6 +42,16 @@ static void fill(uint64_t *at, size_t count) {
         at[i] = UNTOUCHED;
 }
 
+/* Shared slot c holds this run's header: its count, value and mark, and 0 for next free. */
+static void header(int line, uint64_t c, uint64_t count, uint64_t value, uint64_t mark) {
+    const uint64_t *at = shared + (c - 1) * DOORSEDGE_HEADER;
+    is(line, "a run's count", at[DOORSEDGE_HEADER_COUNT], count);
+    is(line, "a run's value", at[DOORSEDGE_HEADER_VALUE], value);
+    is(line, "a run's next free", at[DOORSEDGE_HEADER_NEXT_FREE], 0);
+    is(line, "a run's mark", at[DOORSEDGE_HEADER_MARK], mark);
+}
+#define RUN(c, count, value, mark) header(__LINE__, c, count, value, mark)
+
 /* What a refused call may not change, kept before it. */
 static uint64_t kept[DOORSEDGE_HEAD + ELEMS + SHARED];
 
@@ -138,9 +148,10 @@ static void exchange(void) {
         IS(doorsedge_insert_surject(STATE, n, 100 * n, out), DOORSEDGE_OK);
     IS(doorsedge_exchange_shared4(STATE, keys, values, out), DOORSEDGE_OK);
     HOLDS(out, 300, 100, 400, 200);
-    const uint64_t news[4] = {2, 4, 1, 3};
-    for (int c = 0; c < 4; c++)
-        IS(shared[c * DOORSEDGE_HEADER + DOORSEDGE_HEADER_VALUE], news[c]);
+    RUN(1, 1, 2, 0);
+    RUN(2, 1, 4, 0);
+    RUN(3, 1, 1, 0);
+    RUN(4, 1, 3, 0);
     REFUSED(doorsedge_exchange_shared4(STATE, twice, values, out), DOORSEDGE_SAME_CLASS);
 }
 
@@ -156,7 +167,8 @@ static void seal(void) {
     IS(doorsedge_seal(STATE, 3, 1, sealed, DOORSEDGE_SEAL_LEN(FRAMES), out), DOORSEDGE_OK);
     HOLDS(out, 100, 3, UNTOUCHED);
     HOLDS(sealed, 3, 1, 12, 2, 1, 11, 1, 1, 10, UNTOUCHED);
-    HOLDS(shared, 3, 100, 0, 1, 1, 200, 0, 0);
+    RUN(1, 3, 100, 1);
+    RUN(2, 1, 200, 0);
     REFUSED(doorsedge_seal(STATE, 1, 1, sealed, DOORSEDGE_SEAL_LEN(FRAMES), out), DOORSEDGE_SEALED);
     REFUSED(doorsedge_seal(STATE, 1, 1, NULL, 0, out), DOORSEDGE_SEALED);
     REFUSED(doorsedge_insert(STATE, 1, 1, 13, out), DOORSEDGE_SEALED);
@@ -180,17 +192,21 @@ static void after_seal(void) {
     IS(doorsedge_seal(STATE, 1, 1, sealed, DOORSEDGE_SEAL_LEN(FRAMES), out), DOORSEDGE_OK);
     IS(doorsedge_set(STATE, 4, 1, 23, out), DOORSEDGE_OK);
     IS(doorsedge_set_shared(STATE, 4, 1, 201, out), DOORSEDGE_OK);
-    HOLDS(shared, 3, 100, 0, 1, 1, 201, 0, 1);
+    RUN(1, 3, 100, 1);
+    RUN(2, 1, 201, 1);
     IS(doorsedge_remove_element(STATE, 1, 1, out), DOORSEDGE_OK);
-    HOLDS(shared, 2, 100, 0, 1);
+    RUN(1, 2, 100, 1);
     IS(doorsedge_compress_canonical(STATE, 0, scratch, DOORSEDGE_SCRATCH_LEN(FRAMES), out), DOORSEDGE_OK);
-    HOLDS(shared, 2, 100, 0, 1, 1, 201, 0, 1);
+    RUN(1, 2, 100, 1);
+    RUN(2, 1, 201, 1);
     IS(doorsedge_drain(STATE, 2, 3, records, DOORSEDGE_DRAIN_LEN(FRAMES), out), DOORSEDGE_OK);
-    HOLDS(shared, 0, 0, 0, 0, 1, 201, 0, 1);
+    RUN(1, 0, 0, 0);
+    RUN(2, 1, 201, 1);
     IS(doorsedge_insert_surject(STATE, 30, 300, out), DOORSEDGE_OK);
-    HOLDS(shared, 1, 300, 0, 0);
+    RUN(1, 1, 300, 0);
     IS(doorsedge_clear(STATE, out), DOORSEDGE_OK);
-    HOLDS(shared, 0, 0, 0, 0, 0, 0, 0, 0);
+    RUN(1, 0, 0, 0);
+    RUN(2, 0, 0, 0);
 }
 
 static void frames_in(void) {
