@@ -139,7 +139,7 @@ pub struct RemovedShared {
 
 /// A run as it stood when it was [sealed](crate::Arena::seal): all of one moment, and no frame has come into it since.
 #[derive(Clone, PartialEq, Eq, Debug)]
-pub struct Sealed {
+pub struct SealedRun {
     /// The shared value.
     pub value: u64,
     /// The frames in ring order, from the one whose key was handed in. Their number is the count in the run's header.

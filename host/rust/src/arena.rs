@@ -1,6 +1,6 @@
 //! The safe calls.
 
-use crate::answers::{Joined, Key, Record, Refusal, Removed, RemovedShared, Sealed, SealedFrame, SealedHeader};
+use crate::answers::{Joined, Key, Record, Refusal, Removed, RemovedShared, SealedFrame, SealedHeader, SealedRun};
 use crate::sys::{self, Head};
 use crate::tables::{Borrowed, Owned, Tables};
 use crate::{PLACE, RECORD, SEAL_PLACE, elems_len, shared_len};
@@ -259,11 +259,11 @@ impl<T: Tables> Arena<T> {
     /// # Ok(())
     /// # }
     /// ```
-    pub fn seal(&mut self, key: Key) -> Result<Sealed, Refusal> {
+    pub fn seal(&mut self, key: Key) -> Result<SealedRun, Refusal> {
         // the arena is borrowed alone, so the count holds until the seal
         let mut places = vec![0; self.len_surject(key)? as usize * SEAL_PLACE];
         let SealedHeader { value, .. } = self.seal_into(key, &mut places)?;
-        Ok(Sealed { value, frames: places.as_chunks().0.iter().map(SealedFrame::of).collect() })
+        Ok(SealedRun { value, frames: places.as_chunks().0.iter().map(SealedFrame::of).collect() })
     }
 
     /// The same into a lent buffer, [SEAL_PLACE](crate::SEAL_PLACE) numbers a frame: slot, generation and payload. Where

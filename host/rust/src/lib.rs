@@ -76,7 +76,7 @@ pub mod sys;
 mod tables;
 mod writer;
 
-pub use answers::{Joined, Key, Record, Refusal, Removed, RemovedShared, Sealed, SealedFrame, SealedHeader};
+pub use answers::{Joined, Key, Record, Refusal, Removed, RemovedShared, SealedFrame, SealedHeader, SealedRun};
 pub use arena::Arena;
 pub use tables::{Borrowed, Owned, Tables};
 pub use writer::Writer;
