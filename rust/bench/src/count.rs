@@ -51,9 +51,7 @@ fn counted(batch: usize, side: usize, per: usize) -> Option<f64> {
 
 pub fn table() {
     println!("\nInstructions a call, {SLOTS} slots, half of them in rings of four (callgrind)");
-    println!(
-        "`adds` is the host call less its check; `rows`, which checks nothing, is its call less the choice of it."
-    );
+    println!("`adds` is the host call less its check; `rows`, which checks nothing, is its call less the choice of it.");
     let columns = ["archive", "rust", "archive adds", "rust adds", "rows", "oracle", "a/r adds", "a adds/rows"];
     print!("{:<20}", "");
     columns.iter().for_each(|column| print!("{column:>14}"));

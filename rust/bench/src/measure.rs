@@ -87,6 +87,15 @@ pub fn single_calls(n: usize, most: usize) -> Vec<Batch> {
     ]
 }
 
+/// What a finalizer did without a seal: a count, then the list, beside "seal (4)". Times are for both calls.
+pub fn count_and_list(n: usize, most: usize) -> Batch {
+    let bed = Bed::new(n, n / 2, 4);
+    let keys = keys(&bed);
+    let count = most.min(keys.len() / 8).max(1);
+    let calls = keys[..count].iter().flat_map(|&k| [Call::LenSurject(k), Call::List(k)]).collect();
+    Batch { name: "len_surject, then list (4)", bed, calls, per: count }
+}
+
 /// One batch for each call that goes through a whole table: times are for each frame.
 pub fn whole_calls(n: usize) -> Vec<Batch> {
     let rings = || Bed::new(n, n, 4);
