@@ -14,10 +14,17 @@
 
    One call at a time may be made on a head and its tables, reads included: nothing here locks, so threads that share
    them need one lock around every call. And what a call answered holds until the next call: a count that was read
-   before another actor's insert is not the run's count after it.
+   before another actor's insert is not the run's count after it. Who saves a run takes it by `seal`, not by a count and a
+   list.
+
+   Sealing. `seal` answers a run's shared value and count and writes the key and payload of each of its frames, all of one
+   moment, and marks the run in its shared slot. From then on no frame comes into that run: `insert` at it and `union` with
+   it, from either side, are refused 12, and so is sealing it again. So the frames of the run are always among those that
+   `seal` wrote. Reading, setting, removing and draining go on as before. The mark goes when the run's last frame goes, and
+   with `clear` and `fresh`; a compression takes it along. There is no call that takes a seal back.
 
    Refusals. Each entry returns 0 when it accepted, else the number of the refusal. A refused call changes nothing:
-   head, tables, buffers and `out` stay as they were. The tests come in the order 1, 2, 3, 4, 6, 5, 7, and each
+   head, tables, buffers and `out` stay as they were. The tests come in the order 1, 2, 3, 4, 12, 6, 5, 7, and each
    entry below lists those that it can give. Every entry but `fresh` can give 1 and 2.
 
    Keys. A key is two numbers, slot and generation. It is live while its frame is in the tables, and dead (refusal 3)
@@ -50,6 +57,7 @@
       9  all frames of a ring (along next) have one class
      10  all frames of a class are in one ring
      11  every live shared slot has a ring, and its count is that ring's number of frames
+     12  the mark of a live shared slot is 0 or 1 (of a free one it is 0, by line 6)
    The definition is crates/rules/specs/Sound.antt, a field for each line.
 
    Numbers. Payloads and shared values are any uint64_t. Yes is 1 and no is 0. */
@@ -68,20 +76,22 @@ extern "C" {
 enum doorsedge_refusal {
     DOORSEDGE_OK = 0,
     DOORSEDGE_SHAPE = 1,      /* a capacity is not 1 to 65,536, or a table's length is not what its capacity asks */
-    DOORSEDGE_UNSOUND = 2,    /* the shape fits, but head and tables are not a sound state (Sound 1 to 11, above) */
+    DOORSEDGE_UNSOUND = 2,    /* the shape fits, but head and tables are not a sound state (Sound 1 to 12, above) */
     DOORSEDGE_DEAD = 3,       /* a key handed in is not live */
     DOORSEDGE_SAME_CLASS = 4, /* two keys that must be of different runs are of one */
     DOORSEDGE_NO_ELEMENT = 5, /* no element slot can be taken */
     DOORSEDGE_NO_SHARED = 6,  /* no shared slot can be taken */
-    DOORSEDGE_SHORT = 7       /* a buffer has fewer places than needed */
+    DOORSEDGE_SHORT = 7,      /* a buffer has fewer places than needed */
+    DOORSEDGE_SEALED = 12     /* the run is sealed: no frame may come into it, nor may it be sealed again */
 };
 
 /* ---- Layout. Slots are numbered from 1; slot s of a table of width w begins at number (s - 1) * w. */
 
 #define DOORSEDGE_HEAD 9          /* numbers to a head */
 #define DOORSEDGE_FRAME 5         /* numbers to an element slot */
-#define DOORSEDGE_HEADER 3        /* numbers to a shared slot */
+#define DOORSEDGE_HEADER 4        /* numbers to a shared slot */
 #define DOORSEDGE_PLACE 2         /* numbers to a place that `list` writes */
+#define DOORSEDGE_SEAL_PLACE 3    /* numbers to a place that `seal` writes */
 #define DOORSEDGE_RECORD 6        /* numbers to a record that `drain` and `drain_all` write */
 #define DOORSEDGE_MOST_SLOTS 65536
 #define DOORSEDGE_STACK 9216      /* bytes of stack that a call takes at most, memset's own not counted */
@@ -91,6 +101,7 @@ enum doorsedge_refusal {
 #define DOORSEDGE_ELEMS_LEN(capacity) ((size_t)(capacity) * DOORSEDGE_FRAME)
 #define DOORSEDGE_SHARED_LEN(capacity) ((size_t)(capacity) * DOORSEDGE_HEADER)
 #define DOORSEDGE_LIST_LEN(frames) ((size_t)(frames) * DOORSEDGE_PLACE)
+#define DOORSEDGE_SEAL_LEN(frames) ((size_t)(frames) * DOORSEDGE_SEAL_PLACE)
 #define DOORSEDGE_DRAIN_LEN(frames) ((size_t)(frames) * DOORSEDGE_RECORD)
 #define DOORSEDGE_SCRATCH_LEN(capacity) ((size_t)(capacity) * DOORSEDGE_FRAME)
 
@@ -120,11 +131,19 @@ enum doorsedge_frame {
 enum doorsedge_header {
     DOORSEDGE_HEADER_COUNT = 0, /* frames of the run, 0 when free */
     DOORSEDGE_HEADER_VALUE = 1, /* 0 when free */
-    DOORSEDGE_HEADER_NEXT_FREE = 2
+    DOORSEDGE_HEADER_NEXT_FREE = 2,
+    DOORSEDGE_HEADER_MARK = 3 /* 1 if the run is sealed, else 0; 0 when free */
 };
 
 /* A place that `list` writes: the key of a frame. */
 enum doorsedge_place { DOORSEDGE_PLACE_SLOT = 0, DOORSEDGE_PLACE_GENERATION = 1 };
+
+/* A place that `seal` writes: the key of a frame, and its payload. */
+enum doorsedge_seal_place {
+    DOORSEDGE_SEAL_PLACE_SLOT = 0,
+    DOORSEDGE_SEAL_PLACE_GENERATION = 1,
+    DOORSEDGE_SEAL_PLACE_PAYLOAD = 2
+};
 
 /* A record that `drain` and `drain_all` write: the key that the frame had, its payload, whether it was the last frame
    of its run, the run's shared value (0 if not last), and whether the generation overflowed in this removal. */
@@ -202,6 +221,18 @@ uint64_t doorsedge_exchange_shared4(const uint64_t head[DOORSEDGE_HEAD], const u
                                     uint64_t *shared, size_t shared_len, const uint64_t keys[8],
                                     const uint64_t values[4], uint64_t out[4]);
 
+/* ---- Seal: what a finalizer calls. Keys, rings and the head stay as they are. */
+
+/* Seals the key's run: writes the key and the payload of each of its frames into `places`, in ring order from the key,
+   DOORSEDGE_SEAL_PLACE numbers a frame, and sets the run's mark. Numbers past those written stay as they were. From then
+   on no frame comes into the run; see Sealing, above.
+   out: the run's shared value; and how many frames it has, which is how many were written.
+   Refusals: 1, 2, 3, 12 (the run is sealed already), 7 (fewer than DOORSEDGE_SEAL_LEN(frames of the run) numbers; the run
+   is not sealed then). */
+uint64_t doorsedge_seal(const uint64_t head[DOORSEDGE_HEAD], const uint64_t *elems, size_t elems_len, uint64_t *shared,
+                        size_t shared_len, uint64_t slot, uint64_t generation, uint64_t *places, size_t places_len,
+                        uint64_t out[2]);
+
 /* ---- Frames in and out */
 
 /* Begins a run: one frame with this payload, and this shared value.
@@ -212,14 +243,14 @@ uint64_t doorsedge_insert_surject(uint64_t head[DOORSEDGE_HEAD], uint64_t *elems
 
 /* Puts a frame into the key's run, immediately after the key's frame.
    out: the new frame's key.
-   Refusals: 1, 2, 3, 5. */
+   Refusals: 1, 2, 3, 12 (the run is sealed), 5. */
 uint64_t doorsedge_insert(uint64_t head[DOORSEDGE_HEAD], uint64_t *elems, size_t elems_len, uint64_t *shared,
                           size_t shared_len, uint64_t slot, uint64_t generation, uint64_t payload, uint64_t out[2]);
 
 /* Joins two runs. The larger run's shared value is kept, or the first key's where they are equally large; keys stay live.
    out: the removed shared value, slot and generation of the key (of the two) whose value is kept, and how many frames
    changed their run.
-   Refusals: 1, 2, 3, 4 (both keys of one run). */
+   Refusals: 1, 2, 3, 4 (both keys of one run), 12 (one of the runs is sealed). */
 uint64_t doorsedge_union(uint64_t head[DOORSEDGE_HEAD], uint64_t *elems, size_t elems_len, uint64_t *shared,
                          size_t shared_len, uint64_t slot0, uint64_t generation0, uint64_t slot1, uint64_t generation1,
                          uint64_t out[4]);
@@ -290,7 +321,7 @@ struct doorsedge_lent_head {
 };
 
 /* As `doorsedge_insert`.
-   Refusals: 1, 2, 3, 5. */
+   Refusals: 1, 2, 3, 12, 5. */
 uint64_t doorsedge_insert_in_place(struct doorsedge_lent_head *head, uint64_t *elems, size_t elems_len,
                                    uint64_t *shared, size_t shared_len, uint64_t slot, uint64_t generation,
                                    uint64_t payload, uint64_t out[2]);

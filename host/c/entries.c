@@ -13,7 +13,7 @@
 #define UNTOUCHED UINT64_C(77)
 
 static uint64_t head[DOORSEDGE_HEAD], elems[ELEMS], shared[SHARED], out[4], places[DOORSEDGE_LIST_LEN(FRAMES)],
-    records[DOORSEDGE_DRAIN_LEN(FRAMES)], scratch[DOORSEDGE_SCRATCH_LEN(FRAMES)];
+    sealed[DOORSEDGE_SEAL_LEN(FRAMES)], records[DOORSEDGE_DRAIN_LEN(FRAMES)], scratch[DOORSEDGE_SCRATCH_LEN(FRAMES)];
 
 /* Head and tables, as every entry takes them. */
 #define STATE head, elems, ELEMS, shared, SHARED
@@ -41,6 +41,16 @@ static void fill(uint64_t *at, size_t count) {
     for (size_t i = 0; i < count; i++)
         at[i] = UNTOUCHED;
 }
+
+/* Shared slot c holds this run's header: its count, value and mark, and 0 for next free. */
+static void header(int line, uint64_t c, uint64_t count, uint64_t value, uint64_t mark) {
+    const uint64_t *at = shared + (c - 1) * DOORSEDGE_HEADER;
+    is(line, "a run's count", at[DOORSEDGE_HEADER_COUNT], count);
+    is(line, "a run's value", at[DOORSEDGE_HEADER_VALUE], value);
+    is(line, "a run's next free", at[DOORSEDGE_HEADER_NEXT_FREE], 0);
+    is(line, "a run's mark", at[DOORSEDGE_HEADER_MARK], mark);
+}
+#define RUN(c, count, value, mark) header(__LINE__, c, count, value, mark)
 
 /* What a refused call may not change, kept before it. */
 static uint64_t kept[DOORSEDGE_HEAD + ELEMS + SHARED];
@@ -138,8 +148,65 @@ static void exchange(void) {
         IS(doorsedge_insert_surject(STATE, n, 100 * n, out), DOORSEDGE_OK);
     IS(doorsedge_exchange_shared4(STATE, keys, values, out), DOORSEDGE_OK);
     HOLDS(out, 300, 100, 400, 200);
-    HOLDS(shared, 1, 2, 0, 1, 4, 0, 1, 1, 0, 1, 3, 0);
+    RUN(1, 1, 2, 0);
+    RUN(2, 1, 4, 0);
+    RUN(3, 1, 1, 0);
+    RUN(4, 1, 3, 0);
     REFUSED(doorsedge_exchange_shared4(STATE, twice, values, out), DOORSEDGE_SAME_CLASS);
+}
+
+/* Value, count, keys and payloads of one moment, and then no frame comes in: 12 after 3 and 4, before 5 and 7. */
+static void seal(void) {
+    two_runs();
+    fill(sealed, DOORSEDGE_SEAL_LEN(FRAMES));
+    REFUSED(doorsedge_seal(STATE, 3, 2, sealed, DOORSEDGE_SEAL_LEN(FRAMES), out), DOORSEDGE_DEAD);
+    REFUSED(doorsedge_seal(STATE, 3, 1, sealed, DOORSEDGE_SEAL_LEN(3) - 1, out), DOORSEDGE_SHORT);
+    REFUSED(doorsedge_seal(STATE, 3, 1, NULL, 0, out), DOORSEDGE_SHORT);
+    HOLDS(sealed, UNTOUCHED);
+    IS(shared[DOORSEDGE_HEADER_MARK], 0);
+    IS(doorsedge_seal(STATE, 3, 1, sealed, DOORSEDGE_SEAL_LEN(FRAMES), out), DOORSEDGE_OK);
+    HOLDS(out, 100, 3, UNTOUCHED);
+    HOLDS(sealed, 3, 1, 12, 2, 1, 11, 1, 1, 10, UNTOUCHED);
+    RUN(1, 3, 100, 1);
+    RUN(2, 1, 200, 0);
+    REFUSED(doorsedge_seal(STATE, 1, 1, sealed, DOORSEDGE_SEAL_LEN(FRAMES), out), DOORSEDGE_SEALED);
+    REFUSED(doorsedge_seal(STATE, 1, 1, NULL, 0, out), DOORSEDGE_SEALED);
+    REFUSED(doorsedge_insert(STATE, 1, 1, 13, out), DOORSEDGE_SEALED);
+    REFUSED(doorsedge_insert(STATE, 1, 2, 13, out), DOORSEDGE_DEAD);
+    REFUSED(doorsedge_insert_in_place((struct doorsedge_lent_head *)head, elems, ELEMS, shared, SHARED, 1, 1, 13, out),
+            DOORSEDGE_SEALED);
+    REFUSED(doorsedge_union(STATE, 1, 1, 4, 1, out), DOORSEDGE_SEALED);
+    REFUSED(doorsedge_union(STATE, 4, 1, 1, 1, out), DOORSEDGE_SEALED);
+    REFUSED(doorsedge_union(STATE, 1, 1, 2, 1, out), DOORSEDGE_SAME_CLASS);
+    IS(doorsedge_insert(STATE, 4, 1, 21, out), DOORSEDGE_OK);
+    REFUSED(doorsedge_insert(STATE, 1, 1, 13, out), DOORSEDGE_SEALED);
+    REFUSED(doorsedge_insert(STATE, 4, 1, 22, out), DOORSEDGE_NO_ELEMENT);
+    shared[DOORSEDGE_HEADER_MARK] = 2;
+    REFUSED(doorsedge_check(STATE), DOORSEDGE_UNSOUND);
+}
+
+/* What goes on at a sealed run, and where its mark goes. */
+static void after_seal(void) {
+    two_runs();
+    IS(doorsedge_seal(STATE, 4, 1, sealed, DOORSEDGE_SEAL_LEN(FRAMES), out), DOORSEDGE_OK);
+    IS(doorsedge_seal(STATE, 1, 1, sealed, DOORSEDGE_SEAL_LEN(FRAMES), out), DOORSEDGE_OK);
+    IS(doorsedge_set(STATE, 4, 1, 23, out), DOORSEDGE_OK);
+    IS(doorsedge_set_shared(STATE, 4, 1, 201, out), DOORSEDGE_OK);
+    RUN(1, 3, 100, 1);
+    RUN(2, 1, 201, 1);
+    IS(doorsedge_remove_element(STATE, 1, 1, out), DOORSEDGE_OK);
+    RUN(1, 2, 100, 1);
+    IS(doorsedge_compress_canonical(STATE, 0, scratch, DOORSEDGE_SCRATCH_LEN(FRAMES), out), DOORSEDGE_OK);
+    RUN(1, 2, 100, 1);
+    RUN(2, 1, 201, 1);
+    IS(doorsedge_drain(STATE, 2, 3, records, DOORSEDGE_DRAIN_LEN(FRAMES), out), DOORSEDGE_OK);
+    RUN(1, 0, 0, 0);
+    RUN(2, 1, 201, 1);
+    IS(doorsedge_insert_surject(STATE, 30, 300, out), DOORSEDGE_OK);
+    RUN(1, 1, 300, 0);
+    IS(doorsedge_clear(STATE, out), DOORSEDGE_OK);
+    RUN(1, 0, 0, 0);
+    RUN(2, 0, 0, 0);
 }
 
 static void frames_in(void) {
@@ -309,6 +376,8 @@ int main(void) {
     reads();
     sets();
     exchange();
+    seal();
+    after_seal();
     frames_in();
     no_shared();
     frames_out();

@@ -1,6 +1,6 @@
 #!/bin/sh
-# Builds the C programs here against the archive and runs them: recorder, whose print is compared with recorder.stdout, and
-# entries, which calls every entry. `run.sh mock` takes the plain Rust model instead of the proved archive.
+# Builds the C programs here against the archive and runs them: recorder and finalizer, whose prints are compared with
+# recorder.stdout and finalizer.stdout, and entries, which calls every entry. `run.sh mock` takes the plain Rust model instead of the proved archive.
 set -eu
 cd "$(dirname "$0")/../.."
 out=target/cargo/c
@@ -12,8 +12,11 @@ else
     archive=${DOORSEDGE_ARCHIVE:-target/staticlib}/libhost.a
     [ -f "$archive" ] || { echo "$archive is missing: make it with 'rt staticlib host', or run with 'mock'" >&2; exit 1; }
 fi
-for program in recorder entries; do
+for program in recorder finalizer entries; do
     ${CC:-cc} -std=c99 -O2 -Wall -Wextra -Werror -pedantic -Iinclude -o "$out/$program" "host/c/$program.c" "$archive" -lpthread -ldl -lm
 done
-"$out/recorder" | diff -u host/c/recorder.stdout - && echo "host/c/recorder: as expected"
+for program in recorder finalizer; do
+    "$out/$program" | diff -u "host/c/$program.stdout" -
+    echo "host/c/$program: as expected"
+done
 "$out/entries"

@@ -1,5 +1,6 @@
 //! Keys, refusals and what calls answer.
 
+use crate::{RECORD, SEAL_PLACE};
 use std::{error, fmt};
 
 /// The name of a frame: its slot, and the generation in which it was put there.
@@ -61,6 +62,9 @@ pub enum Refusal {
     NoShared = 6,
     /// A buffer has fewer places than needed.
     Short = 7,
+    /// The run is sealed: it was saved as it stood, no frame may come into it by an insert or a union, and it cannot be
+    /// sealed again. What comes too late begins a run of its own.
+    Sealed = 12,
 }
 
 impl Refusal {
@@ -80,6 +84,7 @@ impl Refusal {
             5 => Refusal::NoElement,
             6 => Refusal::NoShared,
             7 => Refusal::Short,
+            12 => Refusal::Sealed,
             crate::sys::ABSENT => panic!("the archive lacks this entry"),
             n => unreachable!("no entry gives {n}"),
         })
@@ -96,6 +101,7 @@ impl fmt::Display for Refusal {
             Refusal::NoElement => "no element slot can be taken",
             Refusal::NoShared => "no shared slot can be taken",
             Refusal::Short => "a buffer has fewer places than needed",
+            Refusal::Sealed => "the run is sealed, no frame may come into it",
         };
         write!(f, "refused {}: {why}", self.number())
     }
@@ -131,6 +137,39 @@ pub struct RemovedShared {
     pub overflow: bool,
 }
 
+/// A run as it stood when it was [sealed](crate::Arena::seal): all of one moment, and no frame has come into it since.
+#[derive(Clone, PartialEq, Eq, Debug)]
+pub struct SealedRun {
+    /// The shared value.
+    pub value: u64,
+    /// The frames in ring order, from the one whose key was handed in. Their number is the count in the run's header.
+    pub frames: Vec<SealedFrame>,
+}
+
+/// A frame that a seal wrote.
+#[derive(Clone, Copy, PartialEq, Eq, Debug)]
+pub struct SealedFrame {
+    pub key: Key,
+    pub payload: u64,
+}
+
+impl SealedFrame {
+    /// A frame from the numbers that a seal writes.
+    pub fn of(numbers: &[u64; SEAL_PLACE]) -> SealedFrame {
+        let [slot, generation, payload] = *numbers;
+        SealedFrame { key: Key::new(slot, generation), payload }
+    }
+}
+
+/// What [seal_into](crate::Arena::seal_into) answers.
+#[derive(Clone, Copy, PartialEq, Eq, Debug)]
+pub struct SealedHeader {
+    /// The shared value.
+    pub value: u64,
+    /// How many frames the run has, which is how many were written.
+    pub count: u64,
+}
+
 /// A frame that a drain took out.
 #[derive(Clone, Copy, PartialEq, Eq, Debug)]
 pub struct Record {
@@ -142,8 +181,8 @@ pub struct Record {
 }
 
 impl Record {
-    /// A record from the six numbers that a drain writes.
-    pub fn of(numbers: &[u64; 6]) -> Record {
+    /// A record from the numbers that a drain writes.
+    pub fn of(numbers: &[u64; RECORD]) -> Record {
         let [slot, generation, payload, last, value, overflow] = *numbers;
         Record { key: Key::new(slot, generation), payload, last: (last != 0).then_some(value), overflow: overflow != 0 }
     }

@@ -1,9 +1,9 @@
 //! The safe calls.
 
-use crate::answers::{Joined, Key, Record, Refusal, Removed, RemovedShared};
+use crate::answers::{Joined, Key, Record, Refusal, Removed, RemovedShared, SealedFrame, SealedHeader, SealedRun};
 use crate::sys::{self, Head};
 use crate::tables::{Borrowed, Owned, Tables};
-use crate::{PLACE, RECORD, elems_len, shared_len};
+use crate::{PLACE, RECORD, SEAL_PLACE, elems_len, shared_len};
 
 /// Frames in runs. See the [crate's page](crate) for an example.
 #[derive(Clone, PartialEq, Eq, Debug)]
@@ -237,6 +237,43 @@ impl<T: Tables> Arena<T> {
         Ok(out)
     }
 
+    // ---- seal
+
+    /// Seals the key's run, so that it can be saved: answers its shared value, and the key and payload of each of its
+    /// frames in ring order from the key, all of one moment. From then on no frame comes into the run: an insert at it, a
+    /// union with it and a second seal are refused [Sealed](Refusal::Sealed). Frames may still be read, set, removed and
+    /// drained. The run stays sealed until its last frame goes, also over a compression; nothing takes a seal back.
+    ///
+    /// ```
+    /// # fn main() -> Result<(), doorsedge::Refusal> {
+    /// use doorsedge::{Arena, Refusal};
+    ///
+    /// let mut arena = Arena::fresh(3, 2)?;
+    /// let key = arena.insert_surject(10, 100)?;
+    /// arena.insert(key, 11)?;
+    /// let saved = arena.seal(key)?;
+    /// let payloads: Vec<_> = saved.frames.iter().map(|frame| frame.payload).collect();
+    /// assert_eq!((saved.value, payloads), (100, vec![10, 11]));
+    /// assert_eq!(arena.insert(key, 12), Err(Refusal::Sealed));
+    /// assert_eq!(arena.remove_element(key)?.payload, 10);
+    /// # Ok(())
+    /// # }
+    /// ```
+    pub fn seal(&mut self, key: Key) -> Result<SealedRun, Refusal> {
+        // the arena is borrowed alone, so the count holds until the seal
+        let mut places = vec![0; self.len_surject(key)? as usize * SEAL_PLACE];
+        let SealedHeader { value, .. } = self.seal_into(key, &mut places)?;
+        Ok(SealedRun { value, frames: places.as_chunks().0.iter().map(SealedFrame::of).collect() })
+    }
+
+    /// The same into a lent buffer, [SEAL_PLACE](crate::SEAL_PLACE) numbers a frame: slot, generation and payload. Where
+    /// it is too short, the call is refused [Short](Refusal::Short) and the run is not sealed.
+    pub fn seal_into(&mut self, key: Key, places: &mut [u64]) -> Result<SealedHeader, Refusal> {
+        let mut out = [0; 2];
+        change!(self, doorsedge_seal, key.slot(), key.generation(), places.as_mut_ptr(), places.len(), &mut out)?;
+        Ok(SealedHeader { value: out[0], count: out[1] })
+    }
+
     // ---- frames in and out
 
     /// Begins a run of one frame.
@@ -246,14 +283,15 @@ impl<T: Tables> Arena<T> {
         Ok(Key::new(out[0], out[1]))
     }
 
-    /// Puts a frame into the key's run, immediately after the key's frame.
+    /// Puts a frame into the key's run, immediately after the key's frame. A [sealed](Arena::seal) run takes none.
     pub fn insert(&mut self, key: Key, payload: u64) -> Result<Key, Refusal> {
         let mut out = [0; 2];
         change!(self, doorsedge_insert, key.slot(), key.generation(), payload, &mut out)?;
         Ok(Key::new(out[0], out[1]))
     }
 
-    /// Joins two runs. The larger one's shared value is kept, or the first key's where they are equally large.
+    /// Joins two runs. The larger one's shared value is kept, or the first key's where they are equally large. Neither may
+    /// be [sealed](Arena::seal).
     pub fn union(&mut self, key0: Key, key1: Key) -> Result<Joined, Refusal> {
         let mut out = [0; 4];
         change!(self, doorsedge_union, key0.slot(), key0.generation(), key1.slot(), key1.generation(), &mut out)?;

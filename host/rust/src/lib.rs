@@ -26,6 +26,29 @@
 //! # }
 //! ```
 //!
+//! Whoever saves a run seals it, and has its value, count, keys and payloads of one moment. A count that was read before
+//! another call need not be the run's count after it; a sealed run lets no frame in:
+//!
+//! ```
+//! use doorsedge::{Arena, Refusal};
+//!
+//! # fn main() -> Result<(), Refusal> {
+//! let mut arena = Arena::fresh(4, 3)?;
+//! let first = arena.insert_surject(10, 100)?;
+//! let second = arena.insert(first, 11)?;
+//!
+//! let saved = arena.seal(first)?;
+//! assert_eq!((saved.value, saved.frames.len()), (100, 2));
+//! assert_eq!((saved.frames[1].key, saved.frames[1].payload), (second, 11));
+//!
+//! // a writer that comes too late is told so, and begins a run of its own
+//! assert_eq!(arena.insert(second, 12), Err(Refusal::Sealed));
+//! let late = arena.insert_surject(12, 100)?;
+//! assert_eq!(arena.union(late, first), Err(Refusal::Sealed));
+//! # Ok(())
+//! # }
+//! ```
+//!
 //! The tables may also be the caller's own, as one that maps a file or shares memory with C would have them:
 //!
 //! ```
@@ -53,7 +76,7 @@ pub mod sys;
 mod tables;
 mod writer;
 
-pub use answers::{Joined, Key, Record, Refusal, Removed, RemovedShared};
+pub use answers::{Joined, Key, Record, Refusal, Removed, RemovedShared, SealedFrame, SealedHeader, SealedRun};
 pub use arena::Arena;
 pub use tables::{Borrowed, Owned, Tables};
 pub use writer::Writer;
@@ -61,9 +84,11 @@ pub use writer::Writer;
 /// Numbers to an element slot.
 pub const FRAME: usize = 5;
 /// Numbers to a shared slot.
-pub const HEADER: usize = 3;
+pub const HEADER: usize = 4;
 /// Numbers to a place that a listing writes.
 pub const PLACE: usize = 2;
+/// Numbers to a place that a seal writes.
+pub const SEAL_PLACE: usize = 3;
 /// Numbers to a drain's record.
 pub const RECORD: usize = 6;
 

@@ -163,6 +163,19 @@ unsafe extern "C" {
         out: *mut [u64; 4],
     ) -> u64;
 
+    pub fn doorsedge_seal(
+        head: *const Head,
+        elems: *const u64,
+        elems_len: usize,
+        shared: *mut u64,
+        shared_len: usize,
+        slot: u64,
+        generation: u64,
+        places: *mut u64,
+        places_len: usize,
+        out: *mut [u64; 2],
+    ) -> u64;
+
     pub fn doorsedge_insert_surject(
         head: *mut Head,
         elems: *mut u64,

@@ -6,17 +6,16 @@ use crate::sys::{self, LentHead};
 /// A writer over a head and tables that are the caller's own. Nothing is tested when it is made: each call tests.
 ///
 /// ```
-/// use doorsedge::sys::{LentHead, Pool};
-/// use doorsedge::{Key, Refusal, Writer};
+/// use doorsedge::sys::LentHead;
+/// use doorsedge::{Arena, Refusal, Writer, elems_len, shared_len};
 ///
 /// # fn main() -> Result<(), Refusal> {
-/// // one frame, in slot 1, with payload 7, under the shared value 70
-/// let pool = |capacity| Pool { capacity, extent: 1, root: 0, live: 1 };
-/// let mut head = LentHead { elems: pool(2), shared: pool(1), generation: 1 };
-/// let (mut elems, mut shared) = ([1, 7, 1, 1, 1, 0, 0, 0, 0, 0], [1, 70, 0]);
+/// let (mut numbers, mut elems, mut shared) = ([0; 9], [0; elems_len(2)], [0; shared_len(1)]);
+/// let first = Arena::fresh_in(2, 1, &mut numbers, &mut elems, &mut shared)?.insert_surject(7, 70)?;
 ///
+/// let mut head = LentHead::from(numbers);
 /// let mut writer = Writer { head: &mut head, elems: &mut elems, shared: &mut shared };
-/// let key = writer.insert(Key::new(1, 1), 8)?;
+/// let key = writer.insert(first, 8)?;
 /// assert_eq!(writer.insert(key, 9), Err(Refusal::NoElement));
 /// assert_eq!(writer.remove(key)?.payload, 8);
 /// assert_eq!((head.elems.live, head.generation), (1, 2));
@@ -40,7 +39,8 @@ macro_rules! lend {
 }
 
 impl Writer<'_> {
-    /// Puts a frame into the key's run, immediately after the key's frame.
+    /// Puts a frame into the key's run, immediately after the key's frame. A run that was
+    /// [sealed](crate::Arena::seal) takes none: [Sealed](Refusal::Sealed).
     pub fn insert(&mut self, key: Key, payload: u64) -> Result<Key, Refusal> {
         let mut out = [0; 2];
         lend!(self, doorsedge_insert_in_place, key.slot(), key.generation(), payload, &mut out)?;

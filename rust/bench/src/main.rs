@@ -6,7 +6,7 @@ mod count;
 mod measure;
 mod sides;
 
-use measure::{Batch, checks, compressions, least, single_calls, unions, whole_calls};
+use measure::{Batch, checks, compressions, count_and_list, least, single_calls, unions, whole_calls};
 use sides::Side::{self, Archive, Door, InPlace, Oracle, Rows};
 use std::time::Duration;
 
@@ -46,6 +46,7 @@ fn calls() {
         for batch in single_calls(n, 65_536 / n) {
             line(&batch, n, &[Archive, Door], &[(0, 1)], budget);
         }
+        line(&count_and_list(n, 65_536 / n), n, &[Archive, Door], &[(0, 1)], budget);
     }
     head("The head lent in place, ns a call, beside the head as numbers.", &["in place", "archive", "i/a"]);
     let is_writers = |batch: &&Batch| ["insert", "remove_element"].contains(&batch.name);
@@ -59,6 +60,7 @@ fn calls() {
         for batch in single_calls(n, 128) {
             line(&batch, n, &[Rows, Oracle], &[(0, 1)], budget);
         }
+        line(&count_and_list(n, 128), n, &[Rows, Oracle], &[(0, 1)], budget);
         line(&unions(n), n, &[Rows, Oracle], &[(0, 1)], budget);
     }
     head(

@@ -82,8 +82,18 @@ pub fn single_calls(n: usize, most: usize) -> Vec<Batch> {
         batch("remove_element", &|i| Call::RemoveElement(keys[i % runs])),
         batch("remove_shared (4)", &|i| Call::RemoveShared(keys[i % runs])),
         batch("list (4)", &|i| Call::List(at(i))),
+        batch("seal (4)", &|i| Call::Seal(keys[i % runs])),
         batch("drain (4)", &|i| Call::Drain(keys[i % runs])),
     ]
+}
+
+/// What a finalizer did without a seal: a count, then the list, beside "seal (4)". Times are for both calls.
+pub fn count_and_list(n: usize, most: usize) -> Batch {
+    let bed = Bed::new(n, n / 2, 4);
+    let keys = keys(&bed);
+    let count = most.min(keys.len() / 8).max(1);
+    let calls = keys[..count].iter().flat_map(|&k| [Call::LenSurject(k), Call::List(k)]).collect();
+    Batch { name: "len_surject, then list (4)", bed, calls, per: count }
 }
 
 /// One batch for each call that goes through a whole table: times are for each frame.
@@ -94,6 +104,7 @@ pub fn whole_calls(n: usize) -> Vec<Batch> {
     let batch = |name, bed: Bed, call| Batch { name, bed, calls: vec![call], per: n };
     vec![
         batch("list, one ring", ring(), Call::List(first)),
+        batch("seal, one ring", ring(), Call::Seal(first)),
         batch("drain, one ring", ring(), Call::Drain(first)),
         batch("remove_shared, one ring", ring(), Call::RemoveShared(first)),
         batch("drain_all", rings(), Call::DrainAll),

@@ -4,7 +4,7 @@ use archive::Host;
 use doorsedge::sys::LentHead;
 use doorsedge::{Key as Frame, Writer};
 use model::door::{self, Call};
-use model::{Head, Key, Rows, check};
+use model::{Head, Key, PLACE, RECORD, Rows, SEAL_PLACE, check};
 use std::hint::black_box;
 use std::num::{NonZeroU32, NonZeroUsize};
 use triple_arena::traits::*;
@@ -56,7 +56,7 @@ impl Bed {
             }
         }
         host.head = head.numbers();
-        Bed { host, oracle, lent: vec![0; 6 * n] }
+        Bed { host, oracle, lent: vec![0; RECORD * n] }
     }
 
     /// A state made by calls on both sides. `make` is handed the rows arena, and the oracle by the same keys.
@@ -188,6 +188,7 @@ fn step(rows: &mut Rows, call: &Call, lent: &mut [u64]) -> Option<u64> {
         Call::RemoveElement(k) | Call::RemoveInPlace(k) => rows.remove_element(k).ok().map(|out| out.payload),
         Call::RemoveShared(k) => rows.remove_shared(k).ok().map(|(value, _)| value),
         Call::List(k) => rows.list(k, lent).ok(),
+        Call::Seal(k) => rows.seal(k, lent).ok().map(|(_, count)| count),
         Call::Drain(k) => rows.drain(k, lent).ok(),
         Call::DrainAll => rows.drain_all(lent).ok(),
         Call::Clear => Some(u64::from(rows.clear())),
@@ -222,17 +223,26 @@ fn ask(a: &mut Oracle, call: &Call, lent: &mut [u64]) -> Option<u64> {
         Call::RemoveElement(k) | Call::RemoveInPlace(k) => a.remove_element(ptr(k)).allow()?.0,
         Call::RemoveShared(k) => a.remove_shared(ptr(k)).allow()?,
         Call::List(k) => {
-            let places = lent.chunks_exact_mut(2).zip(a.iter_surject(ptr(k))?);
+            let places = lent.chunks_exact_mut(PLACE).zip(a.iter_surject(ptr(k))?);
             places
                 .map(|(place, (p, _, _))| place.copy_from_slice(&[p.inx().get() as u64, p.generation().get() as u64]))
                 .count() as u64
         }
+        // the oracle has no seal: count, value, keys and payloads are read, as a finalizer would have to
+        Call::Seal(k) => {
+            let (count, _) = black_box((a.len_surject(ptr(k))?.get(), *a.get_shared(ptr(k))?));
+            for (place, (p, t, _)) in lent.chunks_exact_mut(SEAL_PLACE).zip(a.iter_surject(ptr(k))?) {
+                place.copy_from_slice(&[p.inx().get() as u64, p.generation().get() as u64, *t]);
+            }
+            count as u64
+        }
         Call::Drain(k) => {
-            let records = lent.chunks_exact_mut(6).zip(a.drain_surject(ptr(k))?);
+            let records = lent.chunks_exact_mut(RECORD).zip(a.drain_surject(ptr(k))?);
             records.map(|(record, o)| note(record, o.allow())).count() as u64
         }
         Call::DrainAll => {
-            lent.chunks_exact_mut(6).zip(a.drain_combined()).map(|(record, o)| note(record, o.allow())).count() as u64
+            lent.chunks_exact_mut(RECORD).zip(a.drain_combined()).map(|(record, o)| note(record, o.allow())).count()
+                as u64
         }
         Call::Clear => {
             a.clear().allow();

@@ -29,9 +29,11 @@ pub enum Call {
     DrainAll,
     Clear,
     Compress(bool),
+    /// On the archive alone; the oracle has none, and is read at the same moment.
+    Seal(Name),
 }
 
-pub const KINDS: [&str; 19] = [
+pub const KINDS: [&str; 20] = [
     "fresh",
     "check",
     "len_surject",
@@ -51,6 +53,7 @@ pub const KINDS: [&str; 19] = [
     "drain_all",
     "clear",
     "compress_canonical",
+    "seal",
 ];
 
 impl Call {
@@ -76,6 +79,7 @@ impl Call {
             Call::DrainAll => 16,
             Call::Clear => 17,
             Call::Compress(_) => 18,
+            Call::Seal(_) => 19,
         }
     }
 }
@@ -99,7 +103,8 @@ impl fmt::Display for Call {
             | Call::RemoveElement(k)
             | Call::RemoveShared(k)
             | Call::List(k)
-            | Call::Drain(k) => write!(f, "{kind} {}", Shown(k)),
+            | Call::Drain(k)
+            | Call::Seal(k) => write!(f, "{kind} {}", Shown(k)),
             Call::InSameSurject(j, k) | Call::Union(j, k) => write!(f, "{kind} {} {}", Shown(j), Shown(k)),
             Call::Set(k, n) | Call::SetShared(k, n) => write!(f, "{kind} {} {n}", Shown(k)),
             Call::Exchange([a, b, c, d], [x, y, z, w]) => {

@@ -1,8 +1,10 @@
-//! What is compared after a call: count, membership, payloads, shared values, ring order, len.
+//! What is compared after a call: count, membership, payloads, shared values, ring order, len; and of the mark, which the
+//! oracle has not, whether the run was sealed by a call.
 
 use crate::calls::{NEVER, Name};
 use crate::pair::{Oracle, Pair, has, same};
-use doorsedge::{Key, Refusal};
+use crate::seal::MARK;
+use doorsedge::{FRAME, HEADER, Key, PLACE, Refusal};
 use triple_arena::traits::*;
 
 /// How many frames at most are compared by calls of their own.
@@ -34,11 +36,17 @@ impl Pair {
             let len = self.oracle.len_surject(ptr).unwrap().get() as u64;
             same("len", self.port.len_surject(key), Ok(len))?;
             self.tally.longest_ring = self.tally.longest_ring.max(len);
-            let mut places = [0; 2 * FEW];
+            let mut places = [0; PLACE * FEW];
             same("len of the ring", self.port.list_into(key, &mut places), Ok(len))?;
-            let ring = places.chunks(2).take(len as usize).map(|place| self.name_of_key(Key::new(place[0], place[1])));
+            let ring =
+                places.chunks(PLACE).take(len as usize).map(|place| self.name_of_key(Key::new(place[0], place[1])));
             let wanted = self.oracle.iter_surject(ptr).unwrap().map(|(p, _, _)| self.name_of_ptr(p));
             same("ring", self.as_compared(ring.collect()), self.as_compared(wanted.collect()))?;
+            if has("seal") {
+                // with no places a seal is refused either way, and says whether the run is sealed
+                let said = if self.is_sealed(name) { Refusal::Sealed } else { Refusal::Short };
+                same("mark", self.port.seal_into(key, &mut []).err(), Some(said))?;
+            }
             for other in 0..self.frames.len() {
                 let (key1, ptr1) = self.keys(other);
                 let wanted = self.oracle.in_same_surject(ptr, ptr1).ok_or(Refusal::Dead);
@@ -72,6 +80,9 @@ impl Pair {
         if has("remove_shared") {
             all.push(p.remove_shared(key).err());
         }
+        if has("seal") {
+            all.push(p.seal_into(key, &mut []).err());
+        }
         if has("drain") {
             all.push(p.drain_into(key, &mut []).err());
         }
@@ -97,8 +108,10 @@ impl Pair {
                 self.oracle.iter_surject(first).unwrap().map(|(p, t, _)| (self.name_of_ptr(p), *t)).collect();
             wanted.iter().for_each(|(name, _)| met[*name] = true);
             let (ring, class) = self.ring_in_tables(self.keys(name).0, wanted.len())?;
-            let (count1, value1) = (self.port.shared()[(class - 1) * 3], self.port.shared()[(class - 1) * 3 + 1]);
+            let header = &self.port.shared()[(class - 1) * HEADER..][..HEADER];
+            let (count1, value1, mark) = (header[0], header[1], header[MARK]);
             same("len", (count1, value1), (wanted.len() as u64, *value))?;
+            same("mark", mark, self.is_sealed(name) as u64)?;
             same("len", self.oracle.len_surject(first).unwrap().get(), wanted.len())?;
             let sorted = |mut ring: Vec<(Name, u64)>| {
                 ring.sort_unstable();
@@ -117,7 +130,7 @@ impl Pair {
 
     /// The names and payloads of `len` frames along next, which must lead back; and their class.
     fn ring_in_tables(&self, key: Key, len: usize) -> Result<(Vec<(Name, u64)>, usize), String> {
-        let row = |slot: u64| &self.port.elems()[(slot as usize - 1) * 5..][..5];
+        let row = |slot: u64| &self.port.elems()[(slot as usize - 1) * FRAME..][..FRAME];
         if row(key.slot())[0] != key.generation() {
             return Err(format!("membership: {key:?} is dead in the archive's tables"));
         }

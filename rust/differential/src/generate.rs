@@ -1,6 +1,6 @@
 //! Cases: all short ones, random ones of every length and mix, and adversarial ones.
 
-use crate::calls::{Call, Case, NEVER, Name};
+use crate::calls::{Call, Case, KINDS, NEVER, Name};
 use crate::pair::{Pair, Tally};
 use crate::run::{Difference, Way};
 use triple_arena::traits::ArenaTrait;
@@ -49,6 +49,7 @@ pub fn next_calls(live: &[Name], made: usize) -> Vec<Call> {
             Call::RemoveElement(k),
             Call::RemoveShared(k),
             Call::Drain(k),
+            Call::Seal(k),
         ]);
         calls.extend(live.iter().map(|&j| Call::Union(j, k)));
     }
@@ -89,12 +90,12 @@ pub fn every(
 }
 
 /// How often each kind of call comes, drawn anew for each case.
-struct Mix([usize; 19]);
+struct Mix([usize; KINDS.len()]);
 
 impl Mix {
     fn any(r: &mut Random) -> Mix {
-        // fresh to get_shared; set, set_shared, exchange; new run, insert, union; removals; list, drains, clear, compress
-        let usual = [1, 3, 3, 3, 3, 3, 4, 4, 6, 14, 20, 12, 10, 3, 4, 2, 1, 1, 3];
+        // fresh to get_shared; set, set_shared, exchange; new run, insert, union; removals; list, drains, clear, compress; seal
+        let usual = [1, 3, 3, 3, 3, 3, 4, 4, 6, 14, 20, 12, 10, 3, 4, 2, 1, 1, 3, 2];
         Mix(usual.map(|n| n * r.of(&[0, 1, 1, 1, 2, 6])))
     }
 
@@ -161,7 +162,8 @@ fn any_call(pair: &Pair, kind: usize, serial: usize, r: &mut Random) -> Call {
         15 => Call::Drain(k),
         16 => Call::DrainAll,
         17 => Call::Clear,
-        _ => Call::Compress(r.below(3) == 0),
+        18 => Call::Compress(r.below(3) == 0),
+        _ => Call::Seal(k),
     }
 }
 
@@ -273,6 +275,42 @@ fn displaced(n: usize, r: &mut Random) -> Vec<Call> {
     calls
 }
 
+/// Rings of four, every other one sealed; frames and runs that come too late, from either side, before and after removals
+/// and a compression; then sealed runs go whole, and new runs take their shared slots.
+fn sealed(n: usize, r: &mut Random) -> Vec<Call> {
+    let runs = n / 8;
+    let mut calls = new_runs(runs);
+    let ring = |run: usize| [0, 1, 2, 3].map(|i| i * runs + run);
+    for (at, new) in (0..3 * runs).zip(runs..) {
+        calls.push(Call::Insert(at, new, number(2 * new)));
+    }
+    let mut serial = 4 * runs;
+    let mut late = |calls: &mut Vec<Call>, r: &mut Random| {
+        for run in 0..runs {
+            calls.push(Call::Insert(r.of(&ring(run)), serial, number(2 * serial)));
+            let (j, k) = (r.of(&ring(run)), r.of(&ring((run + 1) % runs)));
+            calls.push(if r.below(2) == 0 { Call::Union(j, k) } else { Call::Union(k, j) });
+            serial += 1;
+        }
+    };
+    calls.extend((0..runs).step_by(2).map(|run| Call::Seal(ring(run)[run / 2 % 4])));
+    late(&mut calls, r);
+    calls.extend((0..runs).map(|run| Call::RemoveElement(ring(run)[run % 4])));
+    late(&mut calls, r);
+    calls.extend([Call::Compress(false), Call::Check]);
+    late(&mut calls, r);
+    let kept = |run: usize| ring(run)[(run + 1) % 4];
+    calls.extend((0..runs).map(|run| Call::Seal(kept(run))));
+    for run in (0..runs).step_by(3) {
+        calls.push(if run % 2 == 0 { Call::RemoveShared(kept(run)) } else { Call::Drain(kept(run)) });
+        calls.push(Call::InsertSurject(serial, number(2 * serial), number(2 * serial + 1)));
+        calls.push(Call::Insert(serial, serial + 1, number(2 * serial + 2)));
+        serial += 2;
+    }
+    calls.extend([Call::Compress(true), Call::DrainAll]);
+    calls
+}
+
 /// The adversarial cases, with their names.
 pub fn adversarial(seed: u64, largest: usize) -> Vec<(&'static str, Case)> {
     let r = &mut Random::new(seed ^ 0xAD5E);
@@ -287,6 +325,7 @@ pub fn adversarial(seed: u64, largest: usize) -> Vec<(&'static str, Case)> {
         add("one big ring", one_ring(size, r));
         add("churn", churn(size, 12, r));
         add("displaced headers", displaced(size * 3 / 4, r));
+        add("sealed runs", sealed(size, r));
         size *= 4;
     }
     cases

@@ -11,6 +11,7 @@ mod generate;
 mod pair;
 mod run;
 mod sample;
+mod seal;
 
 use calls::{Call, Case, KINDS};
 use generate::Random;
@@ -27,7 +28,7 @@ struct Args {
     fault: Fault,
 }
 
-const USAGE: &str = "usage: differential [CASES] [SEED] [--length N] [--fault equal|run|map|further]";
+const USAGE: &str = "usage: differential [CASES] [SEED] [--length N] [--fault equal|run|map|further|seal|ring]";
 
 fn args() -> Option<Args> {
     let mut args = Args { cases: 20_000, seed: 1, length: 5, fault: Fault::None };
@@ -41,6 +42,8 @@ fn args() -> Option<Args> {
                     "run" => Fault::RunStays,
                     "map" => Fault::MapCrossed,
                     "further" => Fault::OneFurther,
+                    "seal" => Fault::Unsealed,
+                    "ring" => Fault::SealedElsewhere,
                     _ => return None,
                 }
             }
@@ -117,9 +120,9 @@ fn summary(args: &Args, way: &Way, progress: &Progress) {
     let tally = &progress.tally;
     let against = if cfg!(feature = "mock") { "the MOCK, not the proved archive" } else { "the archive" };
     println!("Differential run: the Rust (three files over a stand-in) against {against}");
-    println!("{:<20}{:>12}{:>12}{:>12}", "call", "accepted", "refused 3", "refused 4");
+    println!("{:<20}{:>12}{:>12}{:>12}{:>12}", "call", "accepted", "refused 3", "refused 4", "refused 12");
     for (name, counts) in KINDS.iter().zip(tally.calls) {
-        println!("{name:<20}{:>12}{:>12}{:>12}", counts[0], counts[1], counts[2]);
+        println!("{name:<20}{:>12}{:>12}{:>12}{:>12}", counts[0], counts[1], counts[2], counts[3]);
     }
     println!(
         "{:<20}{:>12} in {} sequences, all frames compared {} times",

@@ -1,7 +1,9 @@
 //! Both sides, and the map between their keys. Each call is made on both, and what they answer is compared.
 
 use crate::calls::{Call, Case, KINDS, NEVER, Name};
-use doorsedge::{Arena, Key, Record, Refusal};
+use crate::seal::refused_12;
+use doorsedge::{Arena, FRAME, Key, Record, Refusal};
+use std::collections::HashSet;
 use triple_arena::traits::*;
 use triple_arena::{SurjectArena, ptr_struct};
 
@@ -29,14 +31,18 @@ pub enum Fault {
     MapCrossed,
     /// Insert at a run of four or more stands one further.
     OneFurther,
+    /// A seal sets no mark.
+    Unsealed,
+    /// A seal writes the ring from the next frame on.
+    SealedElsewhere,
 }
 
 /// What was met.
 #[derive(Clone, Copy, Default, Debug)]
 pub struct Tally {
     pub sequences: u64,
-    /// By kind: accepted, dead, same class.
-    pub calls: [[u64; 3]; 19],
+    /// By kind: accepted, dead, same class, sealed.
+    pub calls: [[u64; 4]; KINDS.len()],
     pub longest_ring: u64,
     pub largest_union: u64,
     pub compared: u64,
@@ -50,6 +56,8 @@ pub struct Pair {
     /// The name that was last given to a slot of the archive, and to one of the oracle.
     by_key: Vec<Name>,
     by_ptr: Vec<Name>,
+    /// The frames that accepted seals wrote: no frame comes into their runs, so those that live are the sealed runs' frames.
+    pub sealed: HashSet<Name>,
     /// Whether both sides put a new frame on the same side of its target.
     pub ordered: bool,
     pub fault: Fault,
@@ -79,6 +87,7 @@ impl Pair {
             frames: vec![],
             by_key,
             by_ptr,
+            sealed: HashSet::new(),
             ordered,
             fault,
             tally: Tally::default(),
@@ -96,6 +105,11 @@ impl Pair {
 
     pub fn is_live(&self, name: Name) -> bool {
         self.oracle.contains(self.keys(name).1)
+    }
+
+    /// Whether the frame is of a sealed run, by the calls made.
+    pub fn is_sealed(&self, name: Name) -> bool {
+        self.is_live(name) && self.sealed.contains(&name)
     }
 
     /// The names of live frames.
@@ -149,7 +163,8 @@ impl Pair {
         let elems = self.oracle.len() == self.oracle.capacity();
         match call {
             Call::InsertSurject(..) => elems || self.oracle.len_shared() == self.oracle.capacity_shared(),
-            Call::Insert(..) => elems,
+            // 12 is said before 5
+            Call::Insert(at, ..) => elems && !self.is_sealed(*at),
             _ => false,
         }
     }
@@ -162,6 +177,7 @@ impl Pair {
         let refusal = match *call {
             Call::InsertSurject(..) | Call::Insert(..) | Call::Fresh => self.put_in(call)?,
             Call::Union(j, k) => self.union(j, k)?,
+            Call::Seal(k) => self.seal(k)?,
             Call::RemoveElement(_) | Call::RemoveShared(_) | Call::Drain(_) => self.take_out(call)?,
             Call::DrainAll | Call::Clear | Call::Compress(_) => self.on_all(call)?,
             _ => self.read_or_set(call)?,
@@ -170,6 +186,7 @@ impl Pair {
             None => 0,
             Some(Refusal::Dead) => 1,
             Some(Refusal::SameClass) => 2,
+            Some(Refusal::Sealed) => 3,
             Some(other) => return Err(format!("the archive says {other}")),
         };
         self.tally.calls[call.kind()][column] += 1;
@@ -265,6 +282,7 @@ impl Pair {
                 self.oracle = Oracle::with_min_capacity_separated(elems, shared).unwrap();
                 self.port = Arena::fresh(elems, shared).map_err(|refusal| refusal.to_string())?;
                 self.frames.clear();
+                self.sealed.clear();
                 self.forget();
                 Ok(None)
             }
@@ -283,6 +301,9 @@ impl Pair {
                     key = self.port.list(key).unwrap()[1];
                 }
                 let said = self.port.insert(key, payload);
+                if self.is_sealed(at) {
+                    return refused_12("insert", said.err());
+                }
                 let new = self.oracle.insert_within_capacity(ptr, payload);
                 match (said, new) {
                     (Ok(key), Ok(ptr)) => {
@@ -303,12 +324,16 @@ impl Pair {
         let ((key0, ptr0), (key1, ptr1)) = (self.keys(j), self.keys(k));
         let sizes = (self.oracle.len_surject(ptr0), self.oracle.len_surject(ptr1));
         let equal = sizes.0.is_some() && sizes.0 == sizes.1;
-        let classes = |port: &Arena| port.elems().chunks(5).map(|row| row[2]).collect::<Vec<_>>();
+        let classes = |port: &Arena| port.elems().chunks(FRAME).map(|row| row[2]).collect::<Vec<_>>();
         let before = classes(&self.port);
         let said = match self.fault {
             Fault::EqualSwapped if equal => self.port.union(key1, key0),
             _ => self.port.union(key0, key1),
         };
+        let apart = self.oracle.in_same_surject(ptr0, ptr1) == Some(false);
+        if apart && (self.is_sealed(j) || self.is_sealed(k)) {
+            return refused_12("union", said.err());
+        }
         match (said, self.oracle.union(ptr0, ptr1)) {
             (Ok(joined), Some((was, kept))) => {
                 same("union's value", joined.was, was)?;
@@ -443,7 +468,7 @@ impl Pair {
         let rows: Vec<(u64, Key)> = self
             .port
             .elems()
-            .chunks(5)
+            .chunks(FRAME)
             .zip(1..)
             .filter(|(row, _)| row[0] != 0)
             .map(|(row, slot)| (row[1], Key::new(slot, row[0])))

@@ -116,6 +116,7 @@ entry!(doorsedge_in_same_surject(slot0, generation0, slot1, generation1) => Call
 entry!(doorsedge_get(slot, generation) => Call::Get(key(slot, generation)));
 entry!(doorsedge_get_shared(slot, generation) => Call::GetShared(key(slot, generation)));
 entry!(doorsedge_list(slot, generation) lent => Call::List(key(slot, generation)));
+entry!(doorsedge_seal(slot, generation) lent => Call::Seal(key(slot, generation)));
 entry!(doorsedge_set(slot, generation, payload) => Call::Set(key(slot, generation), payload));
 entry!(doorsedge_set_shared(slot, generation, value) => Call::SetShared(key(slot, generation), value));
 entry!(doorsedge_insert_surject(payload, value) => Call::InsertSurject { payload, value });

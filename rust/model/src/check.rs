@@ -26,16 +26,16 @@ fn zeros(table: &[u64]) -> bool {
     table.iter().fold(0, |or, number| or | number) == 0
 }
 
-/// The zeros and the live number of the shared slots.
+/// The zeros, the marks and the live number of the shared slots.
 fn headers_ok(head: &Head, shared: &[u64]) -> bool {
     let (used, past) = shared.split_at(head.shared.extent as usize * HEADER);
     let mut live = 0;
     for row in used.chunks_exact(HEADER) {
         if row[COUNT] == 0 {
-            if row[VALUE] != 0 {
+            if row[VALUE] != 0 || row[MARK] != 0 {
                 return false;
             }
-        } else if row[NEXT_FREE] != 0 {
+        } else if row[NEXT_FREE] != 0 || row[MARK] > 1 {
             return false;
         } else {
             live += 1;

@@ -29,6 +29,7 @@ pub enum Call {
     RemoveInPlace(Key),
     RemoveShared(Key),
     List(Key),
+    Seal(Key),
     Drain(Key),
     DrainAll,
     Clear,
@@ -38,7 +39,7 @@ pub enum Call {
 }
 
 /// How many kinds of calls there are.
-pub const KINDS: usize = 21;
+pub const KINDS: usize = 22;
 
 impl Call {
     /// The entry's name in C, without its prefix; and how many numbers its `out` has.
@@ -61,6 +62,7 @@ impl Call {
             Call::RemoveInPlace(_) => ("remove_in_place", 4),
             Call::RemoveShared(_) => ("remove_shared", 2),
             Call::List(_) => ("list", 1),
+            Call::Seal(_) => ("seal", 2),
             Call::Drain(_) => ("drain", 1),
             Call::DrainAll => ("drain_all", 1),
             Call::Clear => ("clear", 1),
@@ -156,6 +158,10 @@ pub fn said(rows: &mut Rows, call: &Call, lent: &mut [u64]) -> Result<[u64; 4], 
             [value, overflow as u64, 0, 0]
         }
         Call::List(k) => one(rows.list(k, lent)?),
+        Call::Seal(k) => {
+            let (value, count) = rows.seal(k, lent)?;
+            [value, count, 0, 0]
+        }
         Call::Drain(k) => one(rows.drain(k, lent)?),
         Call::DrainAll => one(rows.drain_all(lent)?),
         Call::Clear => one(rows.clear() as u64),

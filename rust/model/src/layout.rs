@@ -4,10 +4,12 @@
 pub const HEAD: usize = 9;
 /// Numbers to an element slot: generation, payload, class, previous, next.
 pub const FRAME: usize = 5;
-/// Numbers to a shared slot: count, value, next free.
-pub const HEADER: usize = 3;
+/// Numbers to a shared slot: count, value, next free, mark.
+pub const HEADER: usize = 4;
 /// Numbers to a place that a listing writes: slot, generation.
 pub const PLACE: usize = 2;
+/// Numbers to a place that a seal writes: slot, generation, payload.
+pub const SEAL_PLACE: usize = 3;
 /// Numbers to a drain's record: slot, generation, payload, last, value, overflow.
 pub const RECORD: usize = 6;
 
@@ -20,6 +22,8 @@ pub const NEXT: usize = 4;
 pub const COUNT: usize = 0;
 pub const VALUE: usize = 1;
 pub const NEXT_FREE: usize = 2;
+/// 1 where the run is sealed, else 0.
+pub const MARK: usize = 3;
 
 pub const MOST_SLOTS: u64 = 65_536;
 pub const LAST_GENERATION: u64 = 4_294_967_295;
@@ -55,6 +59,7 @@ pub enum Refusal {
     NoElement = 5,
     NoShared = 6,
     Short = 7,
+    Sealed = 12,
 }
 
 impl Pool {

@@ -1,4 +1,4 @@
-//! Document 01 in plain Rust, written from its text alone.
+//! Document 01 in plain Rust, with what landed of document 02, written from their text alone.
 //!
 //! It is the reference that the archive's tests compare with, slot by slot, and the plain rows arena that the
 //! benchmark measures against. It shares no code with the proved crates.
@@ -17,5 +17,5 @@ pub mod rows;
 pub mod sets;
 pub mod whole;
 
-pub use layout::{FRAME, HEAD, HEADER, Head, Key, PLACE, Pool, RECORD, Refusal};
+pub use layout::{FRAME, HEAD, HEADER, Head, Key, PLACE, Pool, RECORD, Refusal, SEAL_PLACE};
 pub use rows::{Joined, Removed, Rows};

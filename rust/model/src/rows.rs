@@ -71,6 +71,11 @@ impl Rows<'_> {
         self.header(self.class(slot), COUNT)
     }
 
+    /// Refusal 12: the run of the frame in this slot is sealed.
+    pub(crate) fn unsealed(&self, slot: u64) -> Result<(), Refusal> {
+        if self.header(self.class(slot), MARK) == 1 { Err(Refusal::Sealed) } else { Ok(()) }
+    }
+
     // ---- taking and freeing a slot
 
     fn take_element(&mut self) -> u64 {
@@ -102,7 +107,7 @@ impl Rows<'_> {
     }
 
     pub(crate) fn free_shared(&mut self, slot: u64) {
-        self.put_shared(slot, [0, 0, self.head.shared.root]);
+        self.put_shared(slot, [0, 0, self.head.shared.root, 0]);
         self.head.shared.root = slot;
         self.head.shared.live -= 1;
     }
@@ -170,7 +175,7 @@ impl Rows<'_> {
         let c = self.take_shared();
         let x = self.take_element();
         let generation = self.head.generation;
-        self.put_shared(c, [1, value, 0]);
+        self.put_shared(c, [1, value, 0, 0]);
         self.put_frame(x, [generation, payload, c, x, x]);
         Ok(Key { slot: x, generation })
     }
@@ -178,6 +183,7 @@ impl Rows<'_> {
     /// The new frame stands immediately after the key's.
     pub fn insert(&mut self, key: Key, payload: u64) -> Result<Key, Refusal> {
         let x = self.find(key)?;
+        self.unsealed(x)?;
         if self.head.elems.is_full() {
             return Err(Refusal::NoElement);
         }
@@ -196,6 +202,8 @@ impl Rows<'_> {
         if self.class(x0) == self.class(x1) {
             return Err(Refusal::SameClass);
         }
+        self.unsealed(x0)?;
+        self.unsealed(x1)?;
         let (kept, gone) = if self.size(x0) < self.size(x1) { (key1, key0) } else { (key0, key1) };
         let (x, y) = (kept.slot, gone.slot);
         let (c, d) = (self.class(x), self.class(y));

@@ -1,4 +1,5 @@
-//! Soundness sentence by sentence, as document 01's "Tables and head" has it, by sets: slow, and no algorithm in it.
+//! Soundness sentence by sentence, as document 01's "Tables and head" has it, and document 02's ticket 1 of the mark, by
+//! sets: slow, and no algorithm in it.
 
 use crate::layout::*;
 use std::collections::{BTreeMap, BTreeSet};
@@ -18,6 +19,8 @@ pub fn sound(head: &Head, elems: &[u64], shared: &[u64]) -> bool {
     e.chain_ok() && s.chain_ok() && e.zeros_ok() && s.zeros_ok()
         // live shared slots hold zero where said
         && headers.iter().all(|&c| s.at(c, NEXT_FREE) == 0)
+        // a mark is 0 or 1
+        && headers.iter().all(|&c| [0, 1].contains(&s.at(c, MARK)))
         // a live slot's generation is in range
         && frames.iter().all(|&x| in_range(e.at(x, GENERATION)))
         && links_ok(&e, &frames)

@@ -1,4 +1,4 @@
-//! The calls on a whole ring or on all of them: remove shared, list, drain, drain all, clear, compress canonical.
+//! The calls on a whole ring or on all of them: remove shared, list, seal, drain, drain all, clear, compress canonical.
 
 use crate::{layout::*, rows::Rows};
 
@@ -30,6 +30,22 @@ impl Rows<'_> {
             x = self.elem(x, NEXT);
         }
         Ok(size)
+    }
+
+    /// Keys and payloads in ring order from the given key, and the run's mark. Answers its value and its count.
+    pub fn seal(&mut self, key: Key, places: &mut [u64]) -> Result<(u64, u64), Refusal> {
+        let mut x = self.find(key)?;
+        self.unsealed(x)?;
+        let (c, size) = (self.class(x), self.size(x));
+        if places.len() < size as usize * SEAL_PLACE {
+            return Err(Refusal::Short);
+        }
+        for place in places.chunks_exact_mut(SEAL_PLACE).take(size as usize) {
+            place.copy_from_slice(&[x, self.elem(x, GENERATION), self.elem(x, PAYLOAD)]);
+            x = self.elem(x, NEXT);
+        }
+        self.put_header(c, MARK, 1);
+        Ok((self.header(c, VALUE), size))
     }
 
     /// Removes in ring order from the given key, a record for each. Answers how many.
@@ -120,7 +136,7 @@ impl Rows<'_> {
             }
             let c = self.class(lowest);
             let size = self.header(c, COUNT);
-            headers.extend([size, self.header(c, VALUE), 0]);
+            headers.extend([size, self.header(c, VALUE), 0, self.header(c, MARK)]);
             let (class, first, last) = (headers.len() as u64 / HEADER as u64, at + 1, at + size);
             let mut x = lowest;
             for new in first..=last {

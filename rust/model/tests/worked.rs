@@ -1,8 +1,10 @@
 //! Document 01's worked numbers, P1 to P12, and its traps, on the model.
 
 use model::door::{Call, run};
-use model::{FRAME, HEADER, Key, check, sets};
+use model::layout::MARK;
+use model::{FRAME, HEADER, Key, SEAL_PLACE, check, sets};
 
+#[derive(Clone)]
 struct Host {
     head: [u64; 9],
     elems: Vec<u64>,
@@ -85,7 +87,7 @@ fn p11_and_p12() {
     assert_eq!(host.call(Call::Insert(key(2, 1), 21)), (0, vec![1, 2]));
     assert_eq!(host.lent(Call::CompressCanonical { reset: 0 }, &mut [0; 20]), (0, vec![0]));
     assert_eq!(host.elems[..10], [3, 21, 1, 2, 2, 3, 20, 1, 1, 1]);
-    assert_eq!(host.shared, [2, 200, 0, 0, 0, 0, 0, 0, 0]);
+    assert_eq!(host.shared, [[2, 200, 0, 0], [0; HEADER], [0; HEADER]].concat());
     assert_eq!(host.head, [4, 2, 0, 2, 3, 1, 0, 1, 3]);
 
     let mut host = Host::fresh(4, 3);
@@ -101,12 +103,64 @@ fn mixed_rings_are_unsound() {
     let mut host = Host {
         head: [4, 4, 0, 4, 3, 2, 0, 2, 1],
         elems: vec![1, 0, 1, 2, 2, 1, 0, 2, 1, 1, 1, 0, 1, 4, 4, 1, 0, 2, 3, 3],
-        shared: vec![2, 0, 0, 2, 0, 0, 0, 0, 0],
+        shared: [[2, 0, 0, 0], [2, 0, 0, 0], [0; HEADER]].concat(),
     };
     assert_eq!(host.call(Call::Check), (2, vec![]));
     host.elems[FRAME + 2] = 1;
     host.elems[2 * FRAME + 2] = 2;
     assert_eq!(host.call(Call::Check), (0, vec![]));
+}
+
+/// Document 02's ticket 1: value, count, keys and payloads in one call; from then on 12, after 3 and 4, before 5 and 7.
+#[test]
+fn seal() {
+    let mut host = Host::fresh(4, 3);
+    for call in [new_run(10, 100), Call::Insert(key(1, 1), 11), Call::Insert(key(1, 1), 12), new_run(20, 200)] {
+        assert_eq!(host.call(call).0, 0);
+    }
+    let mut places = [9; 3 * SEAL_PLACE + 1];
+    assert_eq!(host.lent(Call::Seal(key(3, 1)), &mut places[..8]), (7, vec![]));
+    assert_eq!((places, host.shared[MARK]), ([9; 10], 0));
+    assert_eq!(host.lent(Call::Seal(key(3, 1)), &mut places), (0, vec![100, 3]));
+    assert_eq!(places, [3, 1, 12, 2, 1, 11, 1, 1, 10, 9]);
+    assert_eq!(host.shared, [[3, 100, 0, 1], [1, 200, 0, 0], [0; HEADER]].concat());
+    for (call, number) in [
+        (Call::Insert(key(2, 2), 13), 3),
+        (Call::Union(key(1, 1), key(5, 1)), 3),
+        (Call::Union(key(1, 1), key(2, 1)), 4),
+        (Call::Insert(key(2, 1), 13), 12),
+        (Call::Insert(key(4, 1), 13), 5),
+        (Call::Union(key(1, 1), key(4, 1)), 12),
+        (Call::Union(key(4, 1), key(1, 1)), 12),
+        (Call::Seal(key(4, 2)), 3),
+        (Call::Seal(key(2, 1)), 12),
+        (Call::Seal(key(4, 1)), 7),
+    ] {
+        assert_eq!(host.call(call), (number, vec![]), "{call:?}");
+    }
+}
+
+/// The mark goes with the run's last frame, and with compression to its new slot; clear and fresh drop it.
+#[test]
+fn the_mark() {
+    let mut host = Host::fresh(4, 3);
+    for call in [new_run(10, 100), new_run(20, 200), Call::Insert(key(2, 1), 21)] {
+        assert_eq!(host.call(call).0, 0);
+    }
+    assert_eq!(host.lent(Call::Seal(key(2, 1)), &mut [0; 6]).0, 0);
+    assert_eq!(host.call(Call::RemoveElement(key(1, 1))).0, 0);
+    assert_eq!(host.lent(Call::CompressCanonical { reset: 0 }, &mut [0; 20]).0, 0);
+    assert_eq!(host.shared[..HEADER], [2, 200, 0, 1]);
+    let (mut cleared, mut freshened) = (host.clone(), host.clone());
+    assert_eq!(cleared.call(Call::Clear).0, 0);
+    assert_eq!(freshened.call(Call::Fresh { elems: 4, shared: 3 }).0, 0);
+    assert!(cleared.shared.iter().chain(&freshened.shared).all(|&n| n == 0));
+    assert_eq!(host.call(Call::RemoveElement(key(1, 3))), (0, vec![20, 0, 0, 0]));
+    assert_eq!(host.shared[..HEADER], [1, 200, 0, 1]);
+    assert_eq!(host.call(Call::RemoveElement(key(2, 3))), (0, vec![21, 1, 200, 0]));
+    assert_eq!(host.shared[..HEADER], [0; HEADER]);
+    assert_eq!(host.call(new_run(30, 300)), (0, vec![2, 5]));
+    assert_eq!(host.shared[..HEADER], [1, 300, 0, 0]);
 }
 
 /// The linear check and the sentences by sets agree: grown states, with one to three numbers changed.
@@ -124,13 +178,14 @@ fn the_check_is_the_sentences() {
         let mut host = Host::fresh(1 + next(5), 1 + next(4));
         for _ in 0..next(12) {
             let (j, k) = (key(1 + next(5), 1 + next(3)), key(1 + next(5), 1 + next(3)));
-            let call = match next(4) {
+            let call = match next(5) {
                 0 => new_run(next(3), next(3)),
                 1 => Call::Insert(k, next(3)),
                 2 => Call::Union(j, k),
+                3 => Call::Seal(k),
                 _ => Call::RemoveElement(k),
             };
-            host.call(call);
+            host.lent(call, &mut [0; 5 * SEAL_PLACE]);
         }
         for _ in 0..next(4) {
             let value = next(7);

@@ -3,7 +3,7 @@
 
 use crate::{Host, key};
 use model::door::{Call, KINDS};
-use model::{FRAME, HEADER, Key, PLACE, RECORD};
+use model::{FRAME, HEADER, Key, PLACE, RECORD, Refusal, SEAL_PLACE};
 use std::collections::BTreeMap;
 use std::fmt;
 
@@ -44,17 +44,22 @@ impl Random {
     }
 }
 
-/// Calls by entry: accepted, and by refusal.
+/// Calls by entry: accepted, and by refusal's number.
 #[derive(Default)]
-pub struct Tally(pub BTreeMap<&'static str, [u64; 8]>);
+pub struct Tally(pub BTreeMap<&'static str, [u64; REFUSALS]>);
+
+/// One more than the highest number of a refusal.
+pub const REFUSALS: usize = Refusal::Sealed as usize + 1;
+/// The numbers that an entry can give, in their columns.
+const GIVEN: [usize; 9] = [0, 1, 2, 3, 4, 12, 6, 5, 7];
 
 impl fmt::Display for Tally {
     fn fmt(&self, f: &mut fmt::Formatter<'_>) -> fmt::Result {
         write!(f, "{:<19}{:>9}", "entry", "accepted")?;
-        (1..8).try_for_each(|n| write!(f, "{:>7} {n}", "ref."))?;
+        GIVEN[1..].iter().try_for_each(|n| write!(f, "{:>9}", format!("ref. {n}")))?;
         for (name, counts) in &self.0 {
             write!(f, "\n{name:<19}")?;
-            counts.iter().try_for_each(|n| write!(f, "{n:>9}"))?;
+            GIVEN.iter().try_for_each(|n| write!(f, "{:>9}", counts[*n]))?;
         }
         Ok(())
     }
@@ -181,7 +186,8 @@ fn any_call(host: &Host, r: &mut Random) -> Call {
         18 => Call::CompressCanonical { reset: r.of(&[0, 0, 1, a]) },
         19 => Call::InsertInPlace(k, a),
         20 => Call::RemoveInPlace(k),
-        n if n < 28 => Call::InsertSurject { payload: a, value: b },
+        21 => Call::Seal(k),
+        n if n < 29 => Call::InsertSurject { payload: a, value: b },
         _ => Call::Insert(k, a),
     }
 }
@@ -191,6 +197,7 @@ fn any_buffer(host: &Host, call: &Call, r: &mut Random) -> Vec<u64> {
     let frames = host.keys().len();
     let most = match call {
         Call::List(_) => frames * PLACE,
+        Call::Seal(_) => frames * SEAL_PLACE,
         Call::Drain(_) | Call::DrainAll => frames * RECORD,
         Call::CompressCanonical { .. } => host.elems.len(),
         _ => 0,

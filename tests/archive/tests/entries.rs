@@ -2,6 +2,7 @@
 
 use archive::{Host, UNTOUCHED, key};
 use model::door::Call;
+use model::{FRAME, HEADER, SEAL_PLACE};
 
 /// Makes the call (which compares every number with the model's), and answers result and `out`.
 fn said(host: &mut Host, call: Call) -> (u64, Vec<u64>) {
@@ -27,7 +28,7 @@ fn two_runs() -> Host {
 
 #[test]
 fn fresh() {
-    let mut host = Host { head: [99; 9], elems: vec![98; 20], shared: vec![97; 9] };
+    let mut host = Host { head: [99; 9], elems: vec![98; 4 * FRAME], shared: vec![97; 3 * HEADER] };
     assert_eq!(said(&mut host, Call::Fresh { elems: 4, shared: 4 }), (1, vec![]));
     assert_eq!(host.head, [99; 9]);
     assert_eq!(said(&mut host, Call::Fresh { elems: 4, shared: 3 }), (0, vec![]));
@@ -146,6 +147,19 @@ fn list() {
 }
 
 #[test]
+fn seal() {
+    let mut host = two_runs();
+    assert_eq!(host.call(Call::Seal(key(3, 9)), &[77; 3 * SEAL_PLACE]).number, 3);
+    assert_eq!(host.call(Call::Seal(key(3, 1)), &[77; 3 * SEAL_PLACE - 1]).number, 7);
+    let seal = host.call(Call::Seal(key(3, 1)), &[77; 3 * SEAL_PLACE + 1]);
+    assert_eq!((seal.number, seal.out), (0, [100, 3, UNTOUCHED, UNTOUCHED]));
+    assert_eq!(seal.lent, [3, 1, 12, 2, 1, 11, 1, 1, 10, 77]);
+    assert_eq!(host.call(Call::Seal(key(1, 1)), &[77; 3 * SEAL_PLACE]).number, 12);
+    assert_eq!(said(&mut host, Call::Union(key(4, 1), key(1, 1))), (12, vec![]));
+    assert_eq!(said(&mut host, Call::Insert(key(1, 1), 13)), (12, vec![]));
+}
+
+#[test]
 fn drain() {
     let mut host = two_runs();
     assert_eq!(host.call(Call::Drain(key(3, 1)), &[77; 17]).number, 7);
@@ -190,7 +204,7 @@ fn compress_canonical() {
     assert_eq!((compress.number, compress.out[0]), (0, 0));
     assert_eq!(compress.lent, [vec![0; 20], vec![8]].concat());
     assert_eq!(host.elems[..10], [3, 21, 1, 2, 2, 3, 20, 1, 1, 1]);
-    assert_eq!(host.shared, [2, 200, 0, 0, 0, 0, 0, 0, 0]);
+    assert_eq!(host.shared, [[2, 200, 0, 0], [0; HEADER], [0; HEADER]].concat());
     assert_eq!(host.head, [4, 2, 0, 2, 3, 1, 0, 1, 3]);
     host.head[8] = 4_294_967_295;
     // any number but 0 asks for a reset

@@ -2,11 +2,12 @@
 
 use archive::{Host, key};
 use model::door::Call;
+use model::layout::{HEADER, MARK};
 
 /// Slots 1 and 2 in a ring under 100, of three; one run more could begin.
 fn ring() -> Host {
     let elems = vec![1, 10, 1, 2, 2, 1, 11, 1, 1, 1, 0, 0, 0, 0, 0];
-    Host { head: [3, 2, 0, 2, 2, 1, 0, 1, 1], elems, shared: vec![2, 100, 0, 0, 0, 0] }
+    Host { head: [3, 2, 0, 2, 2, 1, 0, 1, 1], elems, shared: [[2, 100, 0, 0], [0; HEADER]].concat() }
 }
 
 /// Makes the call (which compares every number with the model's), and answers the result.
@@ -18,8 +19,14 @@ fn number(host: &mut Host, call: Call) -> u64 {
 fn insert() {
     let mut host = ring();
     assert_eq!(number(&mut host, Call::InsertInPlace(key(1, 2), 12)), 3);
+    host.shared[MARK] = 1;
+    assert_eq!(number(&mut host, Call::InsertInPlace(key(1, 2), 12)), 3);
+    assert_eq!(number(&mut host, Call::InsertInPlace(key(1, 1), 12)), 12);
+    host.shared[MARK] = 0;
     assert_eq!(number(&mut host, Call::InsertInPlace(key(1, 1), 12)), 0);
     assert_eq!(number(&mut host, Call::InsertInPlace(key(1, 1), 13)), 5);
+    host.shared[MARK] = 1;
+    assert_eq!(number(&mut host, Call::InsertInPlace(key(1, 1), 13)), 12);
     host.head[3] += 1;
     assert_eq!(number(&mut host, Call::InsertInPlace(key(1, 1), 13)), 2);
     host.head[0] = 0;

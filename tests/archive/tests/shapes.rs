@@ -4,7 +4,8 @@
 use archive::random::compare;
 use archive::{Host, every_call, key};
 use model::door::Call;
-use model::{FRAME, HEADER, check};
+use model::layout::{COUNT, MARK, NEXT_FREE, VALUE};
+use model::{FRAME, HEADER, PLACE, RECORD, SEAL_PLACE, check};
 
 fn numbers(host: &Host) -> Vec<u64> {
     every_call(key(1, 1), key(2, 1)).into_iter().map(|call| host.clone().call(call, &[0; 40]).number).collect()
@@ -69,19 +70,31 @@ fn capacities_at_their_limits() {
 /// A capacity that times its width gives the table's length only modulo 2 to the 64th is refused.
 #[test]
 fn lengths_do_not_wrap() {
-    // a third modulo 2 to the 64th: a table of 10 numbers would fit 10 times it
-    let third = 0xAAAA_AAAA_AAAA_AAAB_u64;
-    assert_eq!(third.wrapping_mul(3), 1);
-    let mut host = two_runs();
-    host.shared.push(0);
-    host.head[4] = third.wrapping_mul(10);
-    assert!(numbers(&host).iter().all(|&n| n == 1));
-    assert_eq!(host.clone().call(Call::Fresh { elems: 4, shared: host.head[4] }, &[]).number, 1);
+    let (mut wide, mut high) = (two_runs(), two_runs());
+    wide.head[0] = wrapping(FRAME, &mut wide.elems);
+    high.head[4] = wrapping(HEADER, &mut high.shared);
+    for host in [wide, high] {
+        assert!(numbers(&host).iter().all(|&n| n == 1));
+        let fresh = Call::Fresh { elems: host.head[0], shared: host.head[4] };
+        assert_eq!(host.clone().call(fresh, &[]).number, 1);
+    }
     for capacity in [(1 << 32) + 4, (1 << 61) + 4, 65_540] {
         let mut host = two_runs();
         host.head[0] = capacity;
         assert!(numbers(&host).iter().all(|&n| n == 1));
         assert_eq!(host.call(Call::Fresh { elems: capacity, shared: 3 }, &[]).number, 1);
+    }
+}
+
+/// Such a capacity; the table is made longer until there is one.
+fn wrapping(width: usize, table: &mut Vec<u64>) -> u64 {
+    let width = width as u128;
+    loop {
+        let most = (1..width).map(|turns| (turns << 64) + table.len() as u128).find(|n| n.is_multiple_of(width));
+        if let Some(numbers) = most {
+            return (numbers / width) as u64;
+        }
+        table.push(0);
     }
 }
 
@@ -94,8 +107,9 @@ fn full_tables() {
         let (j, k) = (key(5, 1), key(most, 1));
         for call in every_call(j, k) {
             let needed = match call {
-                Call::DrainAll | Call::Drain(_) => 6 * most as usize,
-                Call::List(_) => 2 * most as usize,
+                Call::DrainAll | Call::Drain(_) => RECORD * most as usize,
+                Call::List(_) => PLACE * most as usize,
+                Call::Seal(_) => SEAL_PLACE * most as usize,
                 Call::CompressCanonical { .. } => FRAME * most as usize,
                 _ => 0,
             };
@@ -122,7 +136,7 @@ fn full(most: u64, size: u64) -> Host {
             let row = [1, slot(i) * 3, run + 1, slot(i + size - 1), slot(i + 1)];
             host.elems[(slot(i) as usize - 1) * FRAME..][..FRAME].copy_from_slice(&row);
         }
-        host.shared[run as usize * HEADER..][..HEADER].copy_from_slice(&[size, run, 0]);
+        host.shared[run as usize * HEADER..][..HEADER].copy_from_slice(&[size, run, 0, 0]);
     }
     host
 }
@@ -133,7 +147,7 @@ fn mixed_rings_are_refused_2() {
     let host = Host {
         head: [4, 4, 0, 4, 3, 2, 0, 2, 1],
         elems: vec![1, 0, 1, 2, 2, 1, 0, 2, 1, 1, 1, 0, 1, 4, 4, 1, 0, 2, 3, 3],
-        shared: vec![2, 0, 0, 2, 0, 0, 0, 0, 0],
+        shared: [[2, 0, 0, 0], [2, 0, 0, 0], [0; HEADER]].concat(),
     };
     assert!(numbers(&host).iter().all(|&n| n == 2));
     // with the classes sorted out it is sound
@@ -152,7 +166,9 @@ fn each_sentence_of_soundness() {
     for call in [Call::InsertSurject { payload: 6, value: 7 }, Call::RemoveElement(key(4, 1))] {
         assert_eq!(start.call(call, &[]).number, 0);
     }
-    let breaks: [(&str, fn(&mut Host)); 22] = [
+    // the free header
+    const FREE: usize = 2 * HEADER;
+    let breaks: [(&str, fn(&mut Host)); 24] = [
         ("generation 0", |h| h.head[8] = 0),
         ("generation past the last", |h| h.head[8] = 4_294_967_296),
         ("element extent past its capacity", |h| h.head[1] = 5),
@@ -165,16 +181,18 @@ fn each_sentence_of_soundness() {
         ("element chain without end", |h| h.elems[19] = 4),
         ("shared chain past the extent", |h| h.head[6] = 4),
         ("shared chain at a live slot", |h| h.head[6] = 1),
-        ("shared chain without end", |h| h.shared[8] = 3),
+        ("shared chain without end", |h| h.shared[FREE + NEXT_FREE] = 3),
         ("payload in a free slot", |h| h.elems[16] = 1),
         ("class in a free slot", |h| h.elems[17] = 1),
         ("previous in a free slot", |h| h.elems[18] = 1),
-        ("value in a free header", |h| h.shared[7] = 1),
-        ("next free in a live header", |h| h.shared[2] = 3),
+        ("value in a free header", |h| h.shared[FREE + VALUE] = 1),
+        ("mark on a free header", |h| h.shared[FREE + MARK] = 1),
+        ("next free in a live header", |h| h.shared[NEXT_FREE] = 3),
+        ("mark that is neither 0 nor 1", |h| h.shared[MARK] = 2),
         ("next to a free slot", |h| h.elems[4] = 4),
         ("previous that does not undo next", |h| h.elems[3] = 1),
         ("a class that is free", |h| h.elems[7] = 3),
-        ("a count that is not the ring's", |h| h.shared[0] = 3),
+        ("a count that is not the ring's", |h| h.shared[COUNT] = 3),
     ];
     assert_eq!(start.call(Call::Check, &[]).number, 0);
     for (what, damage) in breaks {
@@ -191,5 +209,7 @@ fn random_numbers() {
     let tally = compare(1_000_000, 20_261);
     for (name, counts) in tally.0 {
         assert!(counts[0] > 0 && counts[1..].iter().any(|&n| n > 0), "{name}: {counts:?}");
+        let sealed = ["insert", "insert_in_place", "union", "seal"].contains(&name);
+        assert_eq!(counts[12] > 0, sealed, "{name}: {counts:?}");
     }
 }
