@@ -1,4 +1,4 @@
--- Zeros, place by place and slot by slot.
+-- Zeros, place by place.
 use mathlib.Core.Path.{_≡_, refl, subst}
 use mathlib.Core.List.{List}
 use Prim.Native.Nat.{ℕ, zero, suc, _+_, _*_, _/_, _%_, _≤_, _<_}
@@ -31,20 +31,3 @@ zero-past t from i l z j lo = go (decLt j i)
     go : Dec (j < i) → getD t j 0 ≡ 0
     go (yes h) = z j lo h
     go (no h) = List·getD-eq-default t 0 (omega arith)
-
--- ---- from the extent on
-abbrev pub Empty : ℕ → List ℕ → ℕ → Type 0
-Empty w t extent = (f s : ℕ) → f < w → extent < s → cell w t f s ≡ 0
-
-pub empty-of : (w : ℕ) (t : List ℕ) (extent : ℕ) → Zeros t (extent * w) → Empty w t extent
-unfolding cell
-empty-of w t extent z f zero h l = refl
-empty-of w t extent z f (suc s) h l = z (s * w + f) (omega (arith, mul-le-mul-right w (le-of-suc-le-suc l)))
-
-pub zeros-of : (w : ℕ) (t : List ℕ) (extent : ℕ) → 0 < w → Empty w t extent → Zeros t (extent * w)
-unfolding cell
-zeros-of w t extent pos z i h = subst (λ (k : ℕ). getD t k 0 ≡ 0) (div-add-mod' i w) (z (i % w) (suc (i / w)) (mod-lt i pos) (go (decLt (i / w) extent)))
-  where
-    go : Dec (i / w < extent) → extent < suc (i / w)
-    go (yes l) = absurd (omega (arith, mul-le-mul-right w l, div-add-mod' i w, mod-lt i pos))
-    go (no l) = omega arith

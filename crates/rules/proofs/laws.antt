@@ -10,6 +10,7 @@ pub mod Links
 pub mod Tests
 pub mod Keys
 pub mod Places
+pub mod Past
 pub mod Chains
 pub mod Rounds
 pub mod Fronted

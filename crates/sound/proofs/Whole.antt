@@ -17,7 +17,7 @@ use Rattle.rules.proofs.laws.Rounds.{Within, Fit, pred-in, walk-last}
 use Rattle.pools.specs.Pools.{PoolOk, HeaderOk, Headers}
 use Rattle.turns.specs.Turns.{FreeOk}
 use Rattle.sound.specs.Scans.{Run, frames, classes, slots, RunOk, Scan, Scanned}
-use Rattle.pools.proofs.Empty.{Empty, empty-of, zeros-of}
+use Rattle.rules.proofs.laws.Past.{Empty, empty-of, zeros-of}
 use Rattle.sound.proofs.Scans.{run-at, at-run, of-class, same-run, once-met, live-met, live-classes}
 
 -- where a slot stands

@@ -1,39 +1,52 @@
 // Rules 2 and 12: fresh and clear.
 // Ported from clear of impl_surject_arena_trait.rs (triple_arena 0.15.1, NOTICE).
 use rules::Done;
+use rules::FRAME;
+use rules::HEADER;
 use rules::Head;
 use rules::HeadDone;
 use rules::Pool;
 use rules::Refusal;
 use shape::both_fit;
 ghost use mathlib.Core.Path.{_≡_};
-ghost use mathlib.Core.List.{List, []};
+ghost use mathlib.Core.List.{List, [], _++_};
 ghost use Prim.Native.Nat.{ℕ, _+_, _*_, _≤_, _<_};
-ghost use lib.ListN.{length, replicate};
+ghost use lib.ListN.{length, replicate, drop};
 ghost use Rattle.rules.specs.Tables.{frameWidth, headerWidth, stateOf};
 ghost use Rattle.rules.specs.Slots.{emptyPool, empty};
 ghost use Rattle.rules.specs.Calls as calls;
 ghost use Rattle.rules.specs.Calls.{Ready, step, freshStep};
 ghost use Rattle.rules.specs.Answers.{afterDone};
+ghost use Rattle.wipes.specs.Wiped.{ZeroPast};
 
-// Rules 2 and 12: every number of a table becomes 0.
-fn zero(t: &mut [u64])
-    ensures { λ r. ⌜ now (t .exit) ≡ replicate (length (now (t .entry))) 0 ⌝ }
+// Rules 2 and 12: the first numbers of a table become 0.
+fn zero(t: &mut [u64], many: u64)
+    requires { ⌜ many ≤ length (now t) ⌝ }
+    ensures { λ r. ⌜ now (t .exit) ≡ replicate many 0 ++ drop many (now (t .entry)) ⌝ }
 {
+    let end = many as usize;
     let mut i = 0;
-    while i < t.len() {
+    while i < end {
         t[i] = 0;
         i += 1;
     }
 }
 
-// Rules 2 and 12: zero tables of so many slots, and the head over them.
-fn blank(frames: u64, headers: u64, generation: u64, elems: &mut [u64], shared: &mut [u64]) -> Head
-    requires { ⌜ (length (now elems) ≡ frames * frameWidth) × (length (now shared) ≡ headers * headerWidth) ⌝ }
+// Rules 2 and 12: zero tables of so many slots, and the head over them; past the first `used` and `classed` slots they are zero already.
+fn blank(
+    frames: u64,
+    headers: u64,
+    generation: u64,
+    elems: &mut [u64],
+    used: u64,
+    shared: &mut [u64],
+    classed: u64,
+) -> Head
+    requires { ⌜ ZeroPast frames frameWidth used (now elems) × ZeroPast headers headerWidth classed (now shared) ⌝ }
     ensures { λ r. ⌜ stateOf r (now (elems .exit)) (now (shared .exit)) ≡ empty frames headers generation ⌝ }
 {
-    zero(elems);
-    zero(shared);
+    zero(elems, used * FRAME);
+    zero(shared, classed * HEADER);
     Head {
         elems: empty_pool(frames),
         shared: empty_pool(headers),
@@ -69,7 +82,7 @@ pub fn fresh(
             over: false,
         };
     }
-    let next = blank(frames, headers, 1, elems, shared);
+    let next = blank(frames, headers, 1, elems, frames, shared, headers);
     HeadDone {
         head: next,
         answer: Done::Done,
@@ -77,7 +90,7 @@ pub fn fresh(
     }
 }
 
-// Rules 12, clear.
+// Rules 12, clear: it stops at the extents, past which a sound table is zero (Sound 6).
 pub fn clear(head: Head, elems: &mut [u64], shared: &mut [u64]) -> HeadDone
     requires { ⌜ Ready (stateOf head (now elems) (now shared)) ⌝ }
     ensures { λ r. ⌜ afterDone r (now (elems .exit)) (now (shared .exit)) [] ≡ step (stateOf head (now (elems .entry)) (now (shared .entry))) [] calls.clear ⌝ }
@@ -89,7 +102,9 @@ pub fn clear(head: Head, elems: &mut [u64], shared: &mut [u64]) -> HeadDone
         head.shared.capacity,
         generation,
         elems,
+        head.elems.extent,
         shared,
+        head.shared.extent,
     );
     HeadDone {
         head: next,

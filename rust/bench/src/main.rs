@@ -1,5 +1,5 @@
 //! `bench`: each call of the archive beside the plain Rust rows arena and the oracle. `bench door`: the soundness check and
-//! what a host call adds to it. `bench compress`: compression as tables grow. `bench count`: instructions. All times of a line are from the same rounds; ratios are what
+//! what a host call adds to it. `bench clear`: clear by extent. `bench compress`: compression as tables grow. `bench count`: instructions. All times of a line are from the same rounds; ratios are what
 //! to read.
 
 mod count;
@@ -119,6 +119,28 @@ fn door() {
     }
 }
 
+/// Clear goes up to the extents: what it adds to its check follows them, and not the capacity.
+fn clear() {
+    let budget = Duration::from_millis(400);
+    println!("\nClear at 65,536 slots, us; `adds` is the call less its check. The oracle's clear has no check.");
+    print!("{:<12}", "extent");
+    ["archive", "check", "adds", "rust", "check", "adds", "oracle"].iter().for_each(|column| print!("{column:>12}"));
+    println!("{:>10}{:>10}", "call/check", "a/rust");
+    for extent in [0, 16, 1_024, 65_536] {
+        let times = |call, sides: &[Side]| {
+            let batch = Batch { name: "", bed: sides::Bed::new(65_536, extent, 1), calls: vec![call], per: 1_000 };
+            least(&batch, sides, budget)
+        };
+        let call = times(model::door::Call::Clear, &[Archive, Door, Oracle]);
+        let check = times(model::door::Call::Check, &[Archive, Door]);
+        print!("{extent:<12}");
+        [call[0], check[0], call[0] - check[0], call[1], check[1], call[1] - check[1], call[2]]
+            .iter()
+            .for_each(|time| print!("{time:>12.2}"));
+        println!("{:>10.2}{:>10.2}", call[0] / check[0], call[0] / call[1]);
+    }
+}
+
 fn compress() {
     let budget = Duration::from_millis(150);
     println!("\nCompression, ns a frame; `alone` is the archive's call less its check.");
@@ -155,14 +177,16 @@ fn main() {
         None => {
             calls();
             door();
+            clear();
             compress();
             count::table();
         }
         Some("door") => door(),
+        Some("clear") => clear(),
         Some("compress") => compress(),
         Some("count") => count::table(),
         Some(_) => {
-            eprintln!("usage: bench [door|compress|count]");
+            eprintln!("usage: bench [door|clear|compress|count]");
             std::process::exit(2);
         }
     }

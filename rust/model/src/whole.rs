@@ -89,10 +89,10 @@ impl Rows<'_> {
         Ok(live)
     }
 
-    /// Fresh tables, one generation higher. Answers whether it overflowed.
+    /// Fresh tables, one generation higher: what lies past the extents is zero already. Answers whether it overflowed.
     pub fn clear(&mut self) -> bool {
-        self.elems.fill(0);
-        self.shared.fill(0);
+        self.elems[..self.head.elems.extent as usize * FRAME].fill(0);
+        self.shared[..self.head.shared.extent as usize * HEADER].fill(0);
         self.head.elems = Pool::fresh(self.head.elems.capacity);
         self.head.shared = Pool::fresh(self.head.shared.capacity);
         self.head.raise()

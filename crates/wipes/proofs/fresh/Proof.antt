@@ -1,6 +1,6 @@
 use mathlib.Core.Path.{refl, _∙_}
 use borrow.Author.Tests.{not-true, not-false}
-use Rattle.wipes.proofs.Wiping.{fresh-1, fresh-done, fit-long}
+use Rattle.wipes.proofs.Wiping.{fresh-1, fresh-done, fit-past}
 use borrow.Author.Needs.{needs}
 use Rattle.wipes.proofs.fresh.Statement.{statement}
 use Rattle.wipes.proofs.fresh.Tie as tie
@@ -18,7 +18,7 @@ returns : tie.Need-returns
 returns c = fresh-1 _ _ _ _ (c .before .both-fit .ensures _ ∙ not-true _ (c .if1 .taken)) refl
 
 blank-requires : tie.Need-blank-requires
-blank-requires c κs = fit-long _ _ _ _ (λ h. c .before .before .before .both-fit .ensures h ∙ not-false _ (c .before .before .if1 .left))
+blank-requires c κs = fit-past _ _ _ _ (λ h. c .before .before .before .both-fit .ensures h ∙ not-false _ (c .before .before .if1 .left))
 
 same-length-3 : tie.Need-same-length-3
 same-length-3 c = search needs

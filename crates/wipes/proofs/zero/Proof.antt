@@ -9,10 +9,10 @@ use Rattle.wipes.proofs.zero.Statement.{statement}
 use Rattle.wipes.proofs.zero.Tie as tie
 
 abbrev Inv-loop : tie.InvT-loop
-Inv-loop t₀ i₀ t i = (t ≡ replicate i 0 ++ drop i t₀) × (length t ≡ length t₀) × (i ≤ length t₀)
+Inv-loop t₀ many end i₀ t i = (t ≡ replicate i 0 ++ drop i t₀) × (length t ≡ length t₀) × (i ≤ many)
 
 abbrev μ-loop : tie.MeasureT-loop
-μ-loop t₀ i₀ t i = length t₀ - i
+μ-loop t₀ many end i₀ t i = many - i
 
 loop-holds : tie.Need-loop-holds Inv-loop μ-loop
 loop-holds c = (refl, refl, omega arith)
@@ -41,8 +41,8 @@ same-length c = c .before .loop .inv .1
 returns : tie.Need-returns Inv-loop μ-loop
 returns c =
     let I = c .before .loop .inv in
-    let e : c .before .loop .i ≡ length (c .before .before .args .t .now) = omega (arith, I .1, I .2, c .loop-test .left) in
-    I .0 ∙ rw (e, drop-length, append-nil) refl
+    let e : c .before .loop .i ≡ c .before .before .args .many = omega (arith, I .2, c .loop-test .left) in
+    I .0 ∙ rw e refl
 
 pub zero-spec : {M : Type 1} → statement M
 zero-spec =

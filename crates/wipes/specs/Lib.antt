@@ -1,0 +1,2 @@
+-- What wiping a table rests on.
+pub mod Wiped
