@@ -20,8 +20,9 @@
    Sealing. `seal` answers a run's shared value and count and writes the key and payload of each of its frames, all of one
    moment, and marks the run in its shared slot. From then on no frame comes into that run: `insert` at it and `union` with
    it, from either side, are refused 12, and so is sealing it again. So the frames of the run are always among those that
-   `seal` wrote. Reading, setting, removing and draining go on as before. The mark goes when the run's last frame goes, and
-   with `clear` and `fresh`; a compression takes it along. There is no call that takes a seal back.
+   `seal` wrote, by their new keys after a compression. Reading, setting, removing and draining go on as before. The mark
+   goes when the run's last frame goes, and with `clear` and `fresh`; a compression takes it along. There is no call that
+   takes a seal back.
 
    Refusals. Each entry returns 0 when it accepted, else the number of the refusal. A refused call changes nothing:
    head, tables, buffers and `out` stay as they were. The tests come in the order 1, 2, 3, 4, 12, 6, 5, 7, and each
