@@ -16,19 +16,22 @@ enum-told : tie.Need-enum-told
 enum-told c = search needs
 
 seal-requires : tie.Need-seal-requires
-seal-requires c κs = opened (stateOf (c .before .before .before .before .before .before .before .args .head) (c .before .before .before .before .before .before .before .args .elems .now) (c .before .before .before .before .before .before .before .args .shared .now)) (c .before .before .before .gate .result) (c .before .before .before .gate .ensures) (c .before .enum-told .given .1)
+seal-requires c κs = opened (stateOf (c .before .before .before .before .before .before .before .before .before .args .head) (c .before .before .before .before .before .before .before .before .before .args .elems .now) (c .before .before .before .before .before .before .before .before .before .args .shared .now)) (c .before .before .before .before .gate .result) (c .before .before .before .before .gate .ensures) (c .before .before .enum-told .given .1)
 
 same-length : tie.Need-same-length
 same-length c = search needs
 
 returns : tie.Need-returns
-returns c = shut (stateOf (c .before .before .before .before .before .before .before .args .head) (c .before .before .before .before .before .before .before .args .elems .now) (c .before .before .before .before .before .before .before .args .shared .now)) (c .before .before .before .gate .result) (c .before .before .before .gate .ensures) _ (c .before .n .given .1) _ _
+returns c = shut (stateOf (c .before .before .before .before .before .before .before .before .args .head) (c .before .before .before .before .before .before .before .before .args .elems .now) (c .before .before .before .before .before .before .before .before .args .shared .now)) (c .before .before .before .gate .result) (c .before .before .before .gate .ensures) _ (c .before .n .given .1) _ _
 
 same-length-2 : tie.Need-same-length-2
 same-length-2 c = search needs
 
+same-length-3 : tie.Need-same-length-3
+same-length-3 c = search needs
+
 returns-2 : tie.Need-returns-2
-returns-2 c = passed (stateOf (c .before .before .before .before .before .before .before .before .before .before .args .head) (c .before .before .before .before .before .before .before .before .before .before .args .elems .now) (c .before .before .before .before .before .before .before .before .before .before .args .shared .now)) _ _ _ (opened (stateOf (c .before .before .before .before .before .before .before .before .before .before .args .head) (c .before .before .before .before .before .before .before .before .before .before .args .elems .now) (c .before .before .before .before .before .before .before .before .before .before .args .shared .now)) (c .before .before .before .before .before .before .gate .result) (c .before .before .before .before .before .before .gate .ensures) (c .before .before .before .before .enum-told .given .1)) (c .before .before .seal .ensures)
+returns-2 c = passed (stateOf (c .before .before .before .before .before .before .before .before .before .before .before .before .before .before .args .head) (c .before .before .before .before .before .before .before .before .before .before .before .before .before .before .args .elems .now) (c .before .before .before .before .before .before .before .before .before .before .before .before .before .before .args .shared .now)) _ _ _ (opened (stateOf (c .before .before .before .before .before .before .before .before .before .before .before .before .before .before .args .head) (c .before .before .before .before .before .before .before .before .before .before .before .before .before .before .args .elems .now) (c .before .before .before .before .before .before .before .before .before .before .before .before .before .before .args .shared .now)) (c .before .before .before .before .before .before .before .before .before .gate .result) (c .before .before .before .before .before .before .before .before .before .gate .ensures) (c .before .before .before .before .before .before .before .enum-told .given .1)) (c .before .before .before .before .seal .ensures)
 
 pub seal-spec : {M : Type 1} → statement M
 seal-spec =
@@ -41,4 +44,5 @@ seal-spec =
     same-length
     returns
     same-length-2
+    same-length-3
     returns-2)
