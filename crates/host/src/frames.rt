@@ -1,6 +1,6 @@
 // Frames in and out.
 use numbers::answers;
-use numbers::head::pack;
+use numbers::head::store;
 use numbers::head::unpack;
 use rules::Key;
 ghost use mathlib.Core.Path.{_≡_};
@@ -23,9 +23,10 @@ pub extern "C" fn doorsedge_insert_surject(
 {
     let step = door::insert_surject(unpack(*head), elems, shared, payload, value);
     let next = step.head;
-    *head = pack(next);
     let answer = step.answer;
-    answers::key(answer, out)
+    let number = answers::key(answer, out);
+    store(head, next, number);
+    number
 }
 
 // Rules 5: puts a frame in, immediately after the key's.
@@ -52,9 +53,10 @@ pub extern "C" fn doorsedge_insert(
         payload,
     );
     let next = step.head;
-    *head = pack(next);
     let answer = step.answer;
-    answers::key(answer, out)
+    let number = answers::key(answer, out);
+    store(head, next, number);
+    number
 }
 
 // Rules 6: joins two runs.
@@ -85,9 +87,10 @@ pub extern "C" fn doorsedge_union(
         },
     );
     let next = step.head;
-    *head = pack(next);
     let answer = step.answer;
-    answers::joined(answer, out)
+    let number = answers::joined(answer, out);
+    store(head, next, number);
+    number
 }
 
 // Rules 7: removes a frame.
@@ -112,9 +115,10 @@ pub extern "C" fn doorsedge_remove_element(
         },
     );
     let next = step.head;
-    *head = pack(next);
     let answer = step.answer;
-    answers::removed(answer, step.over, out)
+    let number = answers::removed(answer, step.over, out);
+    store(head, next, number);
+    number
 }
 
 // Rules 8: removes the key's whole run.
@@ -139,7 +143,8 @@ pub extern "C" fn doorsedge_remove_shared(
         },
     );
     let next = step.head;
-    *head = pack(next);
     let answer = step.answer;
-    answers::number_over(answer, step.over, out)
+    let number = answers::number_over(answer, step.over, out);
+    store(head, next, number);
+    number
 }

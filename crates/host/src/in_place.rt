@@ -52,6 +52,9 @@ pub extern "C" fn doorsedge_insert_in_place(
     ensures { λ r. ⌜ AtHead (insert (keyOf slot generation) payload) values (now (head .entry)) (now (elems .entry)) (now (shared .entry)) (now (out .entry)) (leftAt r (now (head .exit)) (now (elems .exit)) (now (shared .exit)) (now (out .exit))) ⌝ }
 {
     let r = insert_said(*head, elems, shared, slot, generation, payload, out);
+    if r.number != 0 {
+        return r.number;
+    }
     *head = r.head;
     r.number
 }
@@ -72,10 +75,10 @@ fn remove_said(
         generation: generation,
     };
     let r = door::remove_element(head, elems, shared, key);
-    let next = r.head;
+    let after = r.head;
     let answer = r.answer;
     HeadSaid {
-        head: next,
+        head: after,
         number: answers::removed(answer, r.over, out),
     }
 }
@@ -92,7 +95,10 @@ pub extern "C" fn doorsedge_remove_in_place(
 ) -> u64
     ensures { λ r. ⌜ AtHead (remove (keyOf slot generation)) removalNumbers (now (head .entry)) (now (elems .entry)) (now (shared .entry)) (now (out .entry)) (leftAt r (now (head .exit)) (now (elems .exit)) (now (shared .exit)) (now (out .exit))) ⌝ }
 {
-    let r = remove_said(*head, elems, shared, slot, generation, out);
-    *head = r.head;
-    r.number
+    let said = remove_said(*head, elems, shared, slot, generation, out);
+    if said.number != 0 {
+        return said.number;
+    }
+    *head = said.head;
+    said.number
 }

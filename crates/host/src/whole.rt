@@ -1,6 +1,6 @@
 // All at once: fresh, the check, drains, clear, compression.
 use numbers::answers;
-use numbers::head::pack;
+use numbers::head::store;
 use numbers::head::unpack;
 use rules::Key;
 ghost use mathlib.Core.Path.{_≡_};
@@ -22,9 +22,10 @@ pub extern "C" fn doorsedge_fresh(
 {
     let step = door::fresh(unpack(*head), frames, headers, elems, shared);
     let next = step.head;
-    *head = pack(next);
     let answer = step.answer;
-    answers::plain(answer)
+    let number = answers::plain(answer);
+    store(head, next, number);
+    number
 }
 
 // Rules 1, the check: whether head and tables are a sound state.
@@ -48,9 +49,10 @@ pub extern "C" fn doorsedge_clear(
 {
     let step = door::clear(unpack(*head), elems, shared);
     let next = step.head;
-    *head = pack(next);
     let answer = step.answer;
-    answers::over_only(answer, step.over, out)
+    let number = answers::over_only(answer, step.over, out);
+    store(head, next, number);
+    number
 }
 
 // Rules 14: moves all frames down, runs in canonical order.
@@ -67,9 +69,10 @@ pub extern "C" fn doorsedge_compress_canonical(
 {
     let step = door::compress_canonical(unpack(*head), elems, shared, scratch, reset != 0);
     let next = step.head;
-    *head = pack(next);
     let answer = step.answer;
-    answers::over_only(answer, step.over, out)
+    let number = answers::over_only(answer, step.over, out);
+    store(head, next, number);
+    number
 }
 
 // Rules 10: removes the run frame by frame, a record for each.
@@ -96,9 +99,10 @@ pub extern "C" fn doorsedge_drain(
         records,
     );
     let next = step.head;
-    *head = pack(next);
     let answer = step.answer;
-    answers::number(answer, out)
+    let number = answers::number(answer, out);
+    store(head, next, number);
+    number
 }
 
 // Rules 11: drains every run, then clears.
@@ -114,7 +118,8 @@ pub extern "C" fn doorsedge_drain_all(
 {
     let step = door::drain_all(unpack(*head), elems, shared, records);
     let next = step.head;
-    *head = pack(next);
     let answer = step.answer;
-    answers::number(answer, out)
+    let number = answers::number(answer, out);
+    store(head, next, number);
+    number
 }

@@ -2,6 +2,7 @@
 use rules::Head;
 use rules::Pool;
 ghost use mathlib.Core.Path.{_≡_};
+ghost use Rattle.rules.specs.Notation.{if_then_else_, _==_};
 ghost use Rattle.numbers.specs.Numbers.{headOf};
 
 pub fn unpack(h: [u64; 9]) -> Head
@@ -40,4 +41,14 @@ pub fn pack(h: Head) -> [u64; 9]
         s.live,
         h.generation,
     ]
+}
+
+// Refusals, below the table: an accepted call's next head is stored; a refused call, whose number is not 0, stores nothing.
+pub fn store(head: &mut [u64; 9], next: Head, number: u64)
+    ensures { λ r. ⌜ headOf (now (head .exit)) ≡ (if number == 0 then next else headOf (now (head .entry))) ⌝ }
+{
+    if number != 0 {
+        return;
+    }
+    *head = pack(next);
 }

@@ -6,6 +6,16 @@ use doorsedge::sys::*;
 use model::door::{self, Call};
 use model::{FRAME, HEADER, Key, sets};
 
+/// What a host lends to a call, where it lies.
+#[derive(Clone, Copy)]
+pub struct Lent {
+    pub head: *mut [u64; 9],
+    pub elems: *mut [u64],
+    pub shared: *mut [u64],
+    pub buffer: *mut [u64],
+    pub out: *mut [u64; 4],
+}
+
 /// Makes a call on the archive. The same as [model::door::run], which it is compared with.
 pub fn run(
     head: &mut [u64; 9],
@@ -15,9 +25,19 @@ pub fn run(
     lent: &mut [u64],
     out: &mut [u64; 4],
 ) -> u64 {
-    let (h, e, en, s, sn) = (&raw mut *head, elems.as_mut_ptr(), elems.len(), shared.as_mut_ptr(), shared.len());
-    let (l, ln, o) = (lent.as_mut_ptr(), lent.len(), out.as_mut_ptr());
-    // Safety: pointers and lengths are those of slices that are borrowed mutably, each apart; `out` has the most places
+    // Safety: pointers and lengths are those of slices that are borrowed mutably, each apart
+    unsafe { run_at(Lent { head, elems, shared, buffer: lent, out }, call) }
+}
+
+/// The same over what lies anywhere.
+///
+/// # Safety
+///
+/// What is lent can be read, what the call writes can be written, and nothing of it overlaps.
+pub unsafe fn run_at(lent: Lent, call: &Call) -> u64 {
+    let (h, e, en, s, sn) = (lent.head, lent.elems.cast(), lent.elems.len(), lent.shared.cast(), lent.shared.len());
+    let (l, ln, o) = (lent.buffer.cast(), lent.buffer.len(), lent.out);
+    // Safety: as asked above; `out` has the most places
     unsafe {
         match *call {
             Call::Fresh { elems, shared } => doorsedge_fresh(h, elems, shared, e, en, s, sn),

@@ -1,4 +1,4 @@
-use Rattle.host.proofs.Kit.{hosted}
+use Rattle.host.proofs.Kit.{stepped}
 use borrow.Author.Needs.{needs}
 use Rattle.host.proofs.frames.doorsedge_remove_element.Statement.{statement}
 use Rattle.host.proofs.frames.doorsedge_remove_element.Tie as tie
@@ -9,11 +9,11 @@ unpack-requires c κs = search needs
 remove-element-requires : tie.Need-remove-element-requires
 remove-element-requires c κs = search needs
 
-pack-requires : tie.Need-pack-requires
-pack-requires c κs = search needs
-
 removed-requires : tie.Need-removed-requires
 removed-requires c κs = search needs
+
+store-requires : tie.Need-store-requires
+store-requires c κs = search needs
 
 same-length : tie.Need-same-length
 same-length c = search needs
@@ -22,7 +22,7 @@ same-length-2 : tie.Need-same-length-2
 same-length-2 c = search needs
 
 returns : tie.Need-returns
-returns c = hosted _ _ _ _ _ _ _ _ _ _ _ _ _ _ _ _ (c .before .before .before .before .before .before .before .before .before .before .before .unpack .ensures) (c .before .before .before .before .before .before .before .before .remove-element .ensures) (c .before .before .pack .ensures) (c .removed .ensures)
+returns c = stepped _ _ _ _ _ _ _ _ _ _ _ _ _ _ _ _ (c .before .before .before .before .before .before .before .before .before .before .before .before .unpack .ensures) (c .before .before .before .before .before .before .before .before .before .remove-element .ensures) (c .before .before .removed .ensures) (c .store .ensures)
 
 pub doorsedge-remove-element-spec : {M : Type 1} → statement M
 doorsedge-remove-element-spec =
@@ -30,8 +30,8 @@ doorsedge-remove-element-spec =
     (tie.spec
     unpack-requires
     remove-element-requires
-    pack-requires
     removed-requires
+    store-requires
     same-length
     same-length-2
     returns)

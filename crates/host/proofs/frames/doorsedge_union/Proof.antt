@@ -1,4 +1,4 @@
-use Rattle.host.proofs.Kit.{hosted}
+use Rattle.host.proofs.Kit.{stepped}
 use borrow.Author.Needs.{needs}
 use Rattle.host.proofs.frames.doorsedge_union.Statement.{statement}
 use Rattle.host.proofs.frames.doorsedge_union.Tie as tie
@@ -9,11 +9,11 @@ unpack-requires c κs = search needs
 union-requires : tie.Need-union-requires
 union-requires c κs = search needs
 
-pack-requires : tie.Need-pack-requires
-pack-requires c κs = search needs
-
 joined-requires : tie.Need-joined-requires
 joined-requires c κs = search needs
+
+store-requires : tie.Need-store-requires
+store-requires c κs = search needs
 
 same-length : tie.Need-same-length
 same-length c = search needs
@@ -22,7 +22,7 @@ same-length-2 : tie.Need-same-length-2
 same-length-2 c = search needs
 
 returns : tie.Need-returns
-returns c = hosted _ _ _ _ _ _ _ _ _ _ _ _ _ _ _ _ (c .before .before .before .before .before .before .before .before .before .before .before .unpack .ensures) (c .before .before .before .before .before .before .before .before .union .ensures) (c .before .before .pack .ensures) (c .joined .ensures)
+returns c = stepped _ _ _ _ _ _ _ _ _ _ _ _ _ _ _ _ (c .before .before .before .before .before .before .before .before .before .before .before .before .unpack .ensures) (c .before .before .before .before .before .before .before .before .before .union .ensures) (c .before .before .joined .ensures) (c .store .ensures)
 
 pub doorsedge-union-spec : {M : Type 1} → statement M
 doorsedge-union-spec =
@@ -30,8 +30,8 @@ doorsedge-union-spec =
     (tie.spec
     unpack-requires
     union-requires
-    pack-requires
     joined-requires
+    store-requires
     same-length
     same-length-2
     returns)

@@ -1,4 +1,4 @@
-use Rattle.host.proofs.Kit.{hosted}
+use Rattle.host.proofs.Kit.{stepped}
 use borrow.Author.Needs.{needs}
 use Rattle.host.proofs.whole.doorsedge_clear.Statement.{statement}
 use Rattle.host.proofs.whole.doorsedge_clear.Tie as tie
@@ -9,11 +9,11 @@ unpack-requires c κs = search needs
 clear-requires : tie.Need-clear-requires
 clear-requires c κs = search needs
 
-pack-requires : tie.Need-pack-requires
-pack-requires c κs = search needs
-
 over-only-requires : tie.Need-over-only-requires
 over-only-requires c κs = search needs
+
+store-requires : tie.Need-store-requires
+store-requires c κs = search needs
 
 same-length : tie.Need-same-length
 same-length c = search needs
@@ -22,7 +22,7 @@ same-length-2 : tie.Need-same-length-2
 same-length-2 c = search needs
 
 returns : tie.Need-returns
-returns c = hosted _ _ _ _ _ _ _ _ _ _ _ _ _ _ _ _ (c .before .before .before .before .before .before .before .before .before .before .before .unpack .ensures) (c .before .before .before .before .before .before .before .before .clear .ensures) (c .before .before .pack .ensures) (c .over-only .ensures)
+returns c = stepped _ _ _ _ _ _ _ _ _ _ _ _ _ _ _ _ (c .before .before .before .before .before .before .before .before .before .before .before .before .unpack .ensures) (c .before .before .before .before .before .before .before .before .before .clear .ensures) (c .before .before .over-only .ensures) (c .store .ensures)
 
 pub doorsedge-clear-spec : {M : Type 1} → statement M
 doorsedge-clear-spec =
@@ -30,8 +30,8 @@ doorsedge-clear-spec =
     (tie.spec
     unpack-requires
     clear-requires
-    pack-requires
     over-only-requires
+    store-requires
     same-length
     same-length-2
     returns)

@@ -1,4 +1,4 @@
-use Rattle.host.proofs.Kit.{hosted}
+use Rattle.host.proofs.Kit.{stepped}
 use borrow.Author.Needs.{needs}
 use Rattle.host.proofs.whole.doorsedge_compress_canonical.Statement.{statement}
 use Rattle.host.proofs.whole.doorsedge_compress_canonical.Tie as tie
@@ -9,11 +9,11 @@ unpack-requires c κs = search needs
 compress-canonical-requires : tie.Need-compress-canonical-requires
 compress-canonical-requires c κs = search needs
 
-pack-requires : tie.Need-pack-requires
-pack-requires c κs = search needs
-
 over-only-requires : tie.Need-over-only-requires
 over-only-requires c κs = search needs
+
+store-requires : tie.Need-store-requires
+store-requires c κs = search needs
 
 same-length : tie.Need-same-length
 same-length c = search needs
@@ -25,7 +25,7 @@ same-length-3 : tie.Need-same-length-3
 same-length-3 c = search needs
 
 returns : tie.Need-returns
-returns c = hosted _ _ _ _ _ _ _ _ _ _ _ _ _ _ _ _ (c .before .before .before .before .before .before .before .before .before .before .before .before .before .before .unpack .ensures) (c .before .before .before .before .before .before .before .before .before .before .compress-canonical .ensures) (c .before .before .pack .ensures) (c .over-only .ensures)
+returns c = stepped _ _ _ _ _ _ _ _ _ _ _ _ _ _ _ _ (c .before .before .before .before .before .before .before .before .before .before .before .before .before .before .before .unpack .ensures) (c .before .before .before .before .before .before .before .before .before .before .before .compress-canonical .ensures) (c .before .before .over-only .ensures) (c .store .ensures)
 
 pub doorsedge-compress-canonical-spec : {M : Type 1} → statement M
 doorsedge-compress-canonical-spec =
@@ -33,8 +33,8 @@ doorsedge-compress-canonical-spec =
     (tie.spec
     unpack-requires
     compress-canonical-requires
-    pack-requires
     over-only-requires
+    store-requires
     same-length
     same-length-2
     same-length-3

@@ -1,4 +1,4 @@
-use Rattle.host.proofs.Kit.{hosted}
+use Rattle.host.proofs.Kit.{stepped}
 use borrow.Author.Needs.{needs}
 use Rattle.host.proofs.whole.doorsedge_drain.Statement.{statement}
 use Rattle.host.proofs.whole.doorsedge_drain.Tie as tie
@@ -9,11 +9,11 @@ unpack-requires c κs = search needs
 drain-requires : tie.Need-drain-requires
 drain-requires c κs = search needs
 
-pack-requires : tie.Need-pack-requires
-pack-requires c κs = search needs
-
 number-requires : tie.Need-number-requires
 number-requires c κs = search needs
+
+store-requires : tie.Need-store-requires
+store-requires c κs = search needs
 
 same-length : tie.Need-same-length
 same-length c = search needs
@@ -25,7 +25,7 @@ same-length-3 : tie.Need-same-length-3
 same-length-3 c = search needs
 
 returns : tie.Need-returns
-returns c = hosted _ _ _ _ _ _ _ _ _ _ _ _ _ _ _ _ (c .before .before .before .before .before .before .before .before .before .before .before .before .before .before .unpack .ensures) (c .before .before .before .before .before .before .before .before .before .before .drain .ensures) (c .before .before .pack .ensures) (c .number .ensures _)
+returns c = stepped _ _ _ _ _ _ _ _ _ _ _ _ _ _ _ _ (c .before .before .before .before .before .before .before .before .before .before .before .before .before .before .before .unpack .ensures) (c .before .before .before .before .before .before .before .before .before .before .before .drain .ensures) (c .before .before .number .ensures _) (c .store .ensures)
 
 pub doorsedge-drain-spec : {M : Type 1} → statement M
 doorsedge-drain-spec =
@@ -33,8 +33,8 @@ doorsedge-drain-spec =
     (tie.spec
     unpack-requires
     drain-requires
-    pack-requires
     number-requires
+    store-requires
     same-length
     same-length-2
     same-length-3

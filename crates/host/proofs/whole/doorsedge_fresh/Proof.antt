@@ -9,11 +9,11 @@ unpack-requires c κs = search needs
 fresh-requires : tie.Need-fresh-requires
 fresh-requires c κs = search needs
 
-pack-requires : tie.Need-pack-requires
-pack-requires c κs = search needs
-
 plain-requires : tie.Need-plain-requires
 plain-requires c κs = search needs
+
+store-requires : tie.Need-store-requires
+store-requires c κs = search needs
 
 same-length : tie.Need-same-length
 same-length c = search needs
@@ -22,7 +22,7 @@ same-length-2 : tie.Need-same-length-2
 same-length-2 c = search needs
 
 returns : tie.Need-returns
-returns c = freshened _ _ _ _ _ _ _ _ _ _ _ _ (c .before .before .before .before .before .before .before .before .before .before .unpack .ensures) (c .before .before .before .before .before .before .before .fresh .ensures) (c .before .pack .ensures) (c .plain .ensures _)
+returns c = freshened _ _ _ _ _ _ _ _ _ _ _ _ (c .before .before .before .before .before .before .before .before .before .before .before .unpack .ensures) (c .before .before .before .before .before .before .before .before .fresh .ensures) (c .before .before .plain .ensures _) (c .store .ensures)
 
 pub doorsedge-fresh-spec : {M : Type 1} → statement M
 doorsedge-fresh-spec =
@@ -30,8 +30,8 @@ doorsedge-fresh-spec =
     (tie.spec
     unpack-requires
     fresh-requires
-    pack-requires
     plain-requires
+    store-requires
     same-length
     same-length-2
     returns)

@@ -1,0 +1,235 @@
+//! Refusals, below the table: a refusal leaves head, tables, outputs and scratch untouched. Here they lie in pages that
+//! cannot be written, where a store even of the numbers that stood there already ends the process: every refusal of
+//! every entry is had there.
+
+use archive::{Host, Lent, UNTOUCHED, every_call, key, run_at};
+use model::door::{self, Call};
+use model::{Key, check};
+use std::collections::BTreeSet;
+use std::ffi::{c_int, c_void};
+use std::ptr::{null_mut, slice_from_raw_parts_mut};
+use std::slice::from_raw_parts;
+
+unsafe extern "C" {
+    fn mmap(at: *mut c_void, bytes: usize, may: c_int, flags: c_int, file: c_int, offset: isize) -> *mut c_void;
+    fn mprotect(at: *mut c_void, bytes: usize, may: c_int) -> c_int;
+    fn munmap(at: *mut c_void, bytes: usize) -> c_int;
+    fn fork() -> c_int;
+    fn waitpid(child: c_int, status: *mut c_int, options: c_int) -> c_int;
+    fn _exit(code: c_int) -> !;
+}
+
+const READ: c_int = 1;
+const WRITE: c_int = 2;
+const PRIVATE: c_int = 2;
+const ANONYMOUS: c_int = if cfg!(target_os = "linux") { 0x20 } else { 0x1000 };
+const PAGE: usize = 65_536;
+
+/// Numbers in pages of their own. No numbers have pages too, so that the pointer is one.
+struct Pages {
+    start: *mut u64,
+    count: usize,
+    bytes: usize,
+}
+
+impl Pages {
+    fn of(numbers: &[u64]) -> Pages {
+        let (count, bytes) = (numbers.len(), (8 * numbers.len()).next_multiple_of(PAGE).max(PAGE));
+        // Safety: new pages, as many as hold the numbers
+        let start = unsafe { mmap(null_mut(), bytes, READ | WRITE, PRIVATE | ANONYMOUS, -1, 0) };
+        assert_ne!(start.addr(), usize::MAX, "no pages");
+        let start: *mut u64 = start.cast();
+        unsafe { start.copy_from_nonoverlapping(numbers.as_ptr(), count) };
+        Pages { start, count, bytes }
+    }
+
+    fn lock(&self) {
+        assert_eq!(unsafe { mprotect(self.start.cast(), self.bytes, READ) }, 0);
+    }
+
+    fn numbers(&self) -> &[u64] {
+        unsafe { from_raw_parts(self.start, self.count) }
+    }
+}
+
+impl Drop for Pages {
+    fn drop(&mut self) {
+        unsafe { munmap(self.start.cast(), self.bytes) };
+    }
+}
+
+/// Head, element table, shared table, buffer and `out`.
+struct Parts([Pages; 5]);
+
+impl Parts {
+    fn of(host: &Host, buffer: &[u64]) -> Parts {
+        Parts([&host.head[..], &host.elems, &host.shared, buffer, &[UNTOUCHED; 4]].map(Pages::of))
+    }
+
+    fn lent(&self) -> Lent {
+        let [head, elems, shared, buffer, out] = &self.0;
+        let slice = |pages: &Pages| slice_from_raw_parts_mut(pages.start, pages.count);
+        Lent {
+            head: head.start.cast(),
+            elems: slice(elems),
+            shared: slice(shared),
+            buffer: slice(buffer),
+            out: out.start.cast(),
+        }
+    }
+}
+
+#[derive(PartialEq, Eq, Debug)]
+enum End {
+    Said(u64),
+    Signal(c_int),
+}
+
+/// A process that could not write where it did.
+fn is_fault(end: &End) -> bool {
+    matches!(end, End::Signal(7 | 10 | 11))
+}
+
+/// How a child process ends that makes the call.
+fn end(parts: &Parts, call: &Call) -> End {
+    let lent = parts.lent();
+    let mut status = 0;
+    // Safety: the child does nothing but the call, over pages that are apart
+    unsafe {
+        let child = fork();
+        assert!(child >= 0, "no process");
+        if child == 0 {
+            _exit(run_at(lent, call) as c_int);
+        }
+        assert_eq!(waitpid(child, &mut status, 0), child);
+    }
+    match status & 0x7F {
+        0 => End::Said((status >> 8) as u64 & 0xFF),
+        signal => End::Signal(signal),
+    }
+}
+
+/// The model's result and what it leaves, with `out` last.
+fn model(host: &Host, call: &Call, buffer: &[u64]) -> (u64, [Vec<u64>; 5]) {
+    let (mut host, mut buffer, mut out) = (host.clone(), buffer.to_vec(), [UNTOUCHED; 4]);
+    let (h, e, s) = (&mut host.head, &mut host.elems, &mut host.shared);
+    let number = door::run(check::sound, h, e, s, call, &mut buffer, &mut out);
+    (number, [host.head.to_vec(), host.elems, host.shared, buffer, out.to_vec()])
+}
+
+/// Runs of slots 1, 3 and of slot 2, in tables of these capacities.
+fn two_runs(elems: u64, shared: u64) -> Host {
+    let mut host = Host::fresh(elems, shared);
+    let new_run = |payload, value| Call::InsertSurject { payload, value };
+    for call in [new_run(1, 2), new_run(3, 4), Call::Insert(key(1, 1), 5)] {
+        assert_eq!(host.call(call, &[]).number, 0);
+    }
+    host
+}
+
+/// Sound ones with room, without an element slot, without a shared slot and without either; then unsound ones, and ones
+/// that do not fit.
+fn hosts() -> Vec<Host> {
+    let changed = |change: fn(&mut Host)| {
+        let mut host = two_runs(4, 3);
+        change(&mut host);
+        host
+    };
+    vec![
+        two_runs(4, 3),
+        two_runs(3, 3),
+        two_runs(4, 2),
+        two_runs(3, 2),
+        Host::fresh(4, 3),
+        changed(|host| host.head[3] += 1),
+        changed(|host| host.head[8] = 0),
+        changed(|host| host.elems[2] = 2),
+        changed(|host| host.shared[0] = 3),
+        changed(|host| host.elems.truncate(19)),
+        changed(|host| host.shared.push(0)),
+        changed(|host| host.elems.clear()),
+        changed(|host| host.shared.clear()),
+        changed(|host| host.head[0] = 0),
+        changed(|host| host.head[4] = 65_537),
+    ]
+}
+
+fn calls(j: Key, k: Key) -> Vec<Call> {
+    let mut calls = every_call(j, k);
+    calls.extend([(4, 4), (0, 3), (65_537, 3), (4, 3)].map(|(elems, shared)| Call::Fresh { elems, shared }));
+    calls
+}
+
+/// Keys of two runs, of one, and dead ones.
+const KEYS: [[(u64, u64); 2]; 5] =
+    [[(1, 1), (2, 1)], [(1, 1), (3, 1)], [(2, 1), (3, 2)], [(0, 1), (2, 1)], [(4, 1), (9, 9)]];
+
+/// Entry and number of each refusal that include/doorsedge.h lists.
+fn listed() -> BTreeSet<(String, u64)> {
+    let mut numbers = vec![];
+    let mut listed = BTreeSet::new();
+    for line in include_str!("../../../include/doorsedge.h").lines() {
+        if let Some((_, refusals)) = line.split_once("Refusals:") {
+            let word = |word: &str| word.trim_end_matches([',', '.']).parse().ok();
+            numbers = refusals.split_whitespace().filter_map(word).collect();
+        }
+        if let Some((entry, _)) = line.strip_prefix("uint64_t doorsedge_").and_then(|rest| rest.split_once('(')) {
+            listed.extend(numbers.drain(..).map(|number| (entry.to_owned(), number)));
+        }
+    }
+    listed
+}
+
+#[test]
+fn refusals_write_nothing() {
+    let mut had = BTreeSet::new();
+    let mut wrote = BTreeSet::new();
+    for host in hosts() {
+        for keys in KEYS {
+            let [j, k] = keys.map(|(slot, generation)| key(slot, generation));
+            for (call, buffer) in
+                calls(j, k).iter().flat_map(|call| [(call, &[][..]), (call, &[77; 11]), (call, &[77; 40])])
+            {
+                let (number, _) = model(&host, call, buffer);
+                if number == 0 {
+                    continue;
+                }
+                let parts = Parts::of(&host, buffer);
+                parts.0.iter().for_each(Pages::lock);
+                let end = end(&parts, call);
+                if is_fault(&end) {
+                    wrote.insert((call.name().0, number));
+                } else {
+                    assert_eq!(end, End::Said(number), "{call:?} of {host:?}");
+                    had.insert((call.name().0.to_owned(), number));
+                }
+            }
+        }
+    }
+    assert!(wrote.is_empty(), "these refused, and wrote: {wrote:?}");
+    assert_eq!(had, listed());
+}
+
+/// The pages do what the test above rests on: an accepted call, each part that it changes locked in turn, ends the process;
+/// with none locked it goes through.
+#[test]
+fn accepted_calls_write() {
+    let (host, buffer) = (two_runs(4, 3), [77; 40]);
+    let mut stores = 0;
+    for call in calls(key(1, 1), key(2, 1)) {
+        let (number, after) = model(&host, &call, &buffer);
+        if number != 0 {
+            continue;
+        }
+        assert_eq!(end(&Parts::of(&host, &buffer), &call), End::Said(0));
+        for (part, after) in after.iter().enumerate() {
+            let parts = Parts::of(&host, &buffer);
+            parts.0[part].lock();
+            if parts.0[part].numbers() != after {
+                assert!(is_fault(&end(&parts, &call)), "{call:?} does not write part {part}");
+                stores += part.eq(&0) as usize;
+            }
+        }
+    }
+    assert_eq!(stores, 12, "twelve entries store the head");
+}
