@@ -4,6 +4,7 @@
 
 use archive::{Host, Lent, UNTOUCHED, every_call, key, run_at};
 use model::door::{self, Call};
+use model::layout::{COUNT, MARK};
 use model::{Key, check};
 use std::collections::BTreeSet;
 use std::ffi::{c_int, c_void};
@@ -127,8 +128,8 @@ fn two_runs(elems: u64, shared: u64) -> Host {
     host
 }
 
-/// Sound ones with room, without an element slot, without a shared slot and without either; then unsound ones, and ones
-/// that do not fit.
+/// Sound ones with room, without an element slot, without a shared slot and without either, empty ones, and ones with a
+/// sealed run; then unsound ones, and ones that do not fit.
 fn hosts() -> Vec<Host> {
     let changed = |change: fn(&mut Host)| {
         let mut host = two_runs(4, 3);
@@ -141,10 +142,12 @@ fn hosts() -> Vec<Host> {
         two_runs(4, 2),
         two_runs(3, 2),
         Host::fresh(4, 3),
+        changed(|host| host.shared[MARK] = 1),
         changed(|host| host.head[3] += 1),
         changed(|host| host.head[8] = 0),
         changed(|host| host.elems[2] = 2),
-        changed(|host| host.shared[0] = 3),
+        changed(|host| host.shared[COUNT] = 3),
+        changed(|host| host.shared[MARK] = 2),
         changed(|host| host.elems.truncate(19)),
         changed(|host| host.shared.push(0)),
         changed(|host| host.elems.clear()),
