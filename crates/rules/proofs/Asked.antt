@@ -1,0 +1,191 @@
+-- The sentences of the refusals at worked states: what each call asks for, which numbers are earlier, and each sentence where it holds and where it does not.
+use Prim.Native.Nat.{ℕ}
+use native.Mathlib.Omega.{arith}
+use mathlib.Core.Path.{_≡_, refl, ap}
+use mathlib.Core.Logic.{inl, inr}
+use mathlib.Core.Bool.{Bool, true, false, true≢false, false≢true}
+use mathlib.Core.List.{List, [], _∷_, _++_, map}
+use lib.Dec.{lit<}
+use lib.ListN.{replicate}
+use Rattle.rules.specs.declared.Key.{Key}
+use Rattle.rules.specs.declared.Found.{Found}
+use Rattle.rules.specs.declared.Found.the-variants as lookup
+use Rattle.rules.specs.declared.Refusal.the-variants.{Shape, Unsound, Dead, SameClass, NoElement, NoShared, Short, Malformed, Sealed}
+use Rattle.rules.specs.Tables.{State, LiveKey}
+use Rattle.rules.specs.Refusals.{numberOf}
+use Rattle.rules.specs.Calls.{Call, lenSurject, inSameSurject, getElement, getShared, setElement, setShared, check, newRun, insert, union, remove, removeShared, list, drain, seal, drainAll, clear, exchange, compress}
+use Rattle.rules.specs.Exact.{Asks, asks, Sentence, earlier, Given, Accepted}
+use Rattle.rules.proofs.Cases.{rules, key, pool, at, e, s, m}
+use Rattle.rules.proofs.Worked.{three, four, goesOn, single}
+use Rattle.rules.proofs.Apart.{none}
+use Rattle.rules.proofs.Sounds.{trap, trap-unsound, three-sound}
+
+-- keys, whether two may not be in one class, whether none may be sealed, whether a shared slot and an element slot are needed, and how many numbers lent
+abbrev want : List Key → (apart unsealed shared element : Bool) → (numbers : ℕ) → Asks
+want keys apart unsealed shared element numbers = record { keys = keys; apart = apart; unsealed = unsealed; shared = shared; element = element; numbers = numbers }
+
+abbrev a : Key
+a = key 2 1
+
+abbrev b : Key
+b = key 1 1
+
+pub asked : map (asks goesOn) (lenSurject a ∷ inSameSurject a b ∷ getElement a ∷ getShared a ∷ setElement a 9 ∷ setShared a 9 ∷ check ∷ newRun 9 9 ∷ insert a 9 ∷ union a b ∷ remove a ∷ removeShared a ∷ list a ∷ drain a ∷ seal a ∷ clear ∷ exchange (a ∷ b ∷ []) (9 ∷ 9 ∷ []) ∷ [])
+    ++ map (asks single) (drainAll ∷ compress true ∷ [])
+    ≡ want (a ∷ []) false false false false 0
+    ∷ want (a ∷ b ∷ []) false false false false 0
+    ∷ want (a ∷ []) false false false false 0
+    ∷ want (a ∷ []) false false false false 0
+    ∷ want (a ∷ []) false false false false 0
+    ∷ want (a ∷ []) false false false false 0
+    ∷ want [] false false false false 0
+    ∷ want [] false true true true 0
+    ∷ want (a ∷ []) false true false true 0
+    ∷ want (a ∷ b ∷ []) true true false false 0
+    ∷ want (a ∷ []) false false false false 0
+    ∷ want (a ∷ []) false false false false 0
+    ∷ want (a ∷ []) false false false false 6
+    ∷ want (a ∷ []) false false false false 18
+    ∷ want (a ∷ []) false true false false 9
+    ∷ want [] false false false false 0
+    ∷ want (a ∷ b ∷ []) true false false false 0
+    ∷ want [] false false false false 6
+    ∷ want [] false false false false 20
+    ∷ []
+unfolding rules
+asked = refl
+
+pub order : map (λ r. map numberOf (earlier r)) (Shape ∷ Unsound ∷ Dead ∷ SameClass ∷ Sealed ∷ NoShared ∷ NoElement ∷ Short ∷ Malformed ∷ [])
+    ≡ []
+    ∷ (1 ∷ [])
+    ∷ (1 ∷ 2 ∷ [])
+    ∷ (1 ∷ 2 ∷ 3 ∷ [])
+    ∷ (1 ∷ 2 ∷ 3 ∷ 4 ∷ [])
+    ∷ (1 ∷ 2 ∷ 3 ∷ 4 ∷ 12 ∷ [])
+    ∷ (1 ∷ 2 ∷ 3 ∷ 4 ∷ 12 ∷ 6 ∷ [])
+    ∷ (1 ∷ 2 ∷ 3 ∷ 4 ∷ 12 ∷ 6 ∷ 5 ∷ [])
+    ∷ []
+    ∷ []
+order = refl
+
+-- ---- each sentence, where it holds and where it does not
+
+-- what asks for nothing, for keys, for keys apart, for keys not sealed, and for one of the rest
+abbrev nothing : Asks
+nothing = want [] false false false false 0
+
+abbrev keys : List Key → Asks
+keys ks = want ks false false false false 0
+
+abbrev apart : List Key → Asks
+apart ks = want ks true false false false 0
+
+abbrev unsealed : List Key → Asks
+unsealed ks = want ks false true false false 0
+
+abbrev lent : ℕ → Asks
+lent n = want [] false false false false n
+
+-- both tables full, and each alone; two runs of one, the second sealed
+abbrev room : (elems shared : ℕ) → State
+room elems shared = at (pool elems 2 0 2) (pool shared 2 0 2) 1 (e 1 10 1 1 1 ++ e 1 20 2 2 2) (s 1 100 0 ++ m 1 200 1)
+
+-- a key past the extent is not live
+live : Found → Bool
+live (lookup.Live x) = true
+live lookup.Dead = false
+
+dead : LiveKey three (key 4 1) → ⊥
+unfolding rules live
+dead l = false≢true (ap live l)
+
+pub shape : Sentence none [] nothing Shape × (Sentence three [] nothing Shape → ⊥)
+unfolding rules
+shape = (refl, true≢false)
+
+pub unsound : Sentence trap [] nothing Unsound × (Sentence three [] nothing Unsound → ⊥)
+unsound = (trap-unsound, λ n. n three-sound)
+
+-- one of several keys
+pub one-dead : Sentence three [] (keys (key 4 1 ∷ key 1 1 ∷ [])) Dead × Sentence three [] (keys (key 1 1 ∷ key 4 1 ∷ [])) Dead
+one-dead = (inl dead, inr (inl dead))
+
+pub none-dead : (Sentence three [] nothing Dead → ⊥) × (Sentence three [] (keys (key 1 1 ∷ key 3 1 ∷ [])) Dead → ⊥)
+unfolding rules
+none-dead = ((λ n. n), go)
+  where
+    go : Sentence three [] (keys (key 1 1 ∷ key 3 1 ∷ [])) Dead → ⊥
+    go (inl n) = n refl
+    go (inr (inl n)) = n refl
+    go (inr (inr n)) = n
+
+-- two of three keys, whichever; and only of a call that wants them apart
+pub in-one : Sentence four [] (apart (key 1 1 ∷ key 3 1 ∷ key 4 1 ∷ [])) SameClass × Sentence four [] (apart (key 1 1 ∷ key 4 1 ∷ key 3 1 ∷ [])) SameClass × Sentence four [] (apart (key 4 1 ∷ key 1 1 ∷ key 3 1 ∷ [])) SameClass
+unfolding rules
+in-one = ((tt, inl (inl refl)), (tt, inl (inr (inl refl))), (tt, inr (inl (inl refl))))
+
+pub not-in-one : (Sentence four [] (keys (key 1 1 ∷ key 3 1 ∷ [])) SameClass → ⊥) × (Sentence four [] (apart (key 1 1 ∷ key 4 1 ∷ [])) SameClass → ⊥)
+unfolding rules
+not-in-one = ((λ h. h .0), go)
+  where
+    go : Sentence four [] (apart (key 1 1 ∷ key 4 1 ∷ [])) SameClass → ⊥
+    go (t, inl (inl q)) = let z : _≡_ {A = ℕ} 1 2 = q in omega arith
+    go (t, inl (inr q)) = q
+    go (t, inr (inl q)) = q
+    go (t, inr (inr q)) = q
+
+-- one of several runs; and only of a call that wants none
+pub one-sealed : Sentence (room 2 2) [] (unsealed (key 2 1 ∷ key 1 1 ∷ [])) Sealed × Sentence (room 2 2) [] (unsealed (key 1 1 ∷ key 2 1 ∷ [])) Sealed
+unfolding rules
+one-sealed = ((tt, inl tt), (tt, inr (inl tt)))
+
+pub not-sealed : (Sentence (room 2 2) [] (keys (key 2 1 ∷ [])) Sealed → ⊥) × (Sentence (room 2 2) [] (unsealed (key 1 1 ∷ [])) Sealed → ⊥)
+unfolding rules
+not-sealed = ((λ h. h .0), go)
+  where
+    go : Sentence (room 2 2) [] (unsealed (key 1 1 ∷ [])) Sealed → ⊥
+    go (t, inl q) = q
+    go (t, inr q) = q
+
+-- no slot of either table
+pub full : Sentence (room 2 3) [] (want [] false false false true 0) NoElement × Sentence (room 3 2) [] (want [] false false true false 0) NoShared
+full = ((tt, (refl, refl)), (tt, (refl, refl)))
+
+pub not-full : (Sentence (room 3 2) [] (want [] false false true true 0) NoElement → ⊥) × (Sentence (room 2 3) [] (want [] false false true true 0) NoShared → ⊥)
+not-full = ((λ h. omega (arith, h .1 .1)), (λ h. omega (arith, h .1 .1)))
+
+pub on-chain : Sentence goesOn [] (want [] false false true true 0) NoElement → ⊥
+on-chain h = omega (arith, h .1 .0)
+
+pub not-needed : (Sentence (room 2 2) [] (want [] false false true false 0) NoElement → ⊥) × (Sentence (room 2 2) [] (want [] false false false true 0) NoShared → ⊥)
+not-needed = ((λ h. h .0), (λ h. h .0))
+
+pub short : Sentence three (replicate 5 0) (lent 6) Short × (Sentence three (replicate 6 0) (lent 6) Short → ⊥)
+short = (lit< tt, λ h. omega (arith, h))
+
+pub malformed : Sentence three [] nothing Malformed → ⊥
+malformed n = n
+
+-- ---- a number is given, or none is
+
+pub given : Given trap [] check Unsound × Given none [] check Shape
+unfolding rules
+given = ((trap-unsound, (true≢false, tt)), (refl, tt))
+
+-- not its own sentence, and an earlier one
+pub not-given : (Given three [] check Unsound → ⊥) × (Given none [] (lenSurject (key 1 1)) Dead → ⊥)
+unfolding rules
+not-given = ((λ g. g .0 three-sound), λ g. g .1 .0 refl)
+
+-- each sentence alone is in the way of acceptance
+pub not-accepted : (Accepted none [] check → ⊥) × (Accepted trap [] check → ⊥) × (Accepted three [] (lenSurject (key 4 1)) → ⊥) × (Accepted four [] (union (key 1 1) (key 3 1)) → ⊥)
+unfolding rules
+not-accepted = ((λ n. n .0 refl), (λ n. n .1 .0 trap-unsound), (λ n. n .1 .1 .0 (inl dead)), (λ n. n .1 .1 .1 .0 (tt, inl (inl refl))))
+
+pub not-accepted-slots : (Accepted (room 2 2) [] (insert (key 2 1) 9) → ⊥) × (Accepted (room 3 2) [] (newRun 9 9) → ⊥) × (Accepted (room 2 2) [] (insert (key 1 1) 9) → ⊥) × (Accepted three (replicate 5 0) (list (key 1 1)) → ⊥)
+unfolding rules
+not-accepted-slots = ((λ n. n .1 .1 .1 .1 .0 (tt, inl tt)), (λ n. n .1 .1 .1 .1 .1 .0 (tt, (refl, refl))), (λ n. n .1 .1 .1 .1 .1 .1 .0 (tt, (refl, refl))), (λ n. n .1 .1 .1 .1 .1 .1 .1 .0 (lit< tt)))
+
+pub accepted : Accepted three [] check
+unfolding rules
+accepted = (true≢false, ((λ n. n three-sound), ((λ n. n), ((λ h. h .0), ((λ h. h .0), ((λ h. h .0), ((λ h. h .0), ((λ h. omega (arith, h)), tt))))))))
