@@ -30,8 +30,8 @@ a = key 2 1
 abbrev b : Key
 b = key 1 1
 
-pub asked : map (asks goesOn) (lenSurject a ∷ inSameSurject a b ∷ getElement a ∷ getShared a ∷ setElement a 9 ∷ setShared a 9 ∷ check ∷ newRun 9 9 ∷ insert a 9 ∷ union a b ∷ remove a ∷ removeShared a ∷ list a ∷ drain a ∷ seal a ∷ clear ∷ exchange (a ∷ b ∷ []) (9 ∷ 9 ∷ []) ∷ [])
-    ++ map (asks single) (drainAll ∷ compress true ∷ [])
+pub asked : map (asks goesOn) (lenSurject a ∷ inSameSurject a b ∷ getElement a ∷ getShared a ∷ setElement a 9 ∷ setShared a 9 ∷ check ∷ newRun 9 9 ∷ insert a 9 ∷ union a b ∷ remove a ∷ removeShared a ∷ list a ∷ drain a ∷ seal a ∷ clear ∷ exchange (a ∷ b ∷ []) (9 ∷ 9 ∷ []) ∷ drainAll ∷ [])
+    ++ map (asks single) (compress true ∷ [])
     ≡ want (a ∷ []) false false false false 0
     ∷ want (a ∷ b ∷ []) false false false false 0
     ∷ want (a ∷ []) false false false false 0
@@ -49,7 +49,7 @@ pub asked : map (asks goesOn) (lenSurject a ∷ inSameSurject a b ∷ getElement
     ∷ want (a ∷ []) false true false false 9
     ∷ want [] false false false false 0
     ∷ want (a ∷ b ∷ []) true false false false 0
-    ∷ want [] false false false false 6
+    ∷ want [] false false false false 18
     ∷ want [] false false false false 20
     ∷ []
 unfolding rules
@@ -150,6 +150,10 @@ not-sealed = ((λ h. h .0), go)
 -- no slot of either table
 pub full : Sentence (room 2 3) [] (want [] false false false true 0) NoElement × Sentence (room 3 2) [] (want [] false false true false 0) NoShared
 full = ((tt, (refl, refl)), (tt, (refl, refl)))
+
+-- by root and extent, even where a free slot is on no chain
+pub off-chain : Sentence (at (pool 2 2 0 1) (pool 2 2 0 1) 1 [] []) [] (want [] false false true true 0) NoElement
+off-chain = (tt, (refl, refl))
 
 pub not-full : (Sentence (room 3 2) [] (want [] false false true true 0) NoElement → ⊥) × (Sentence (room 2 3) [] (want [] false false true true 0) NoShared → ⊥)
 not-full = ((λ h. omega (arith, h .1 .1)), (λ h. omega (arith, h .1 .1)))

@@ -200,6 +200,8 @@ rows =
     calls ∷
     -- refused calls change nothing; other runs go on
     (calls ++ insert (key 1 1) 12 ∷ union (key 3 1) (key 1 1) ∷ seal (key 1 1) ∷ insert (key 3 1) 21 ∷ []) ∷
+    (calls ++ newRun 30 300 ∷ union (key 3 1) (key 4 1) ∷ []) ∷
+    (calls ++ lenSurject (key 3 1) ∷ getShared (key 3 1) ∷ setElement (key 3 1) 9 ∷ setShared (key 3 1) 9 ∷ exchange (key 3 1 ∷ key 1 1 ∷ []) (9 ∷ 9 ∷ []) ∷ list (key 3 1) ∷ []) ∷
     (calls ++ seal (key 3 1) ∷ []) ∷
     (calls ++ remove (key 2 1) ∷ []) ∷
     (calls ++ remove (key 2 1) ∷ compress false ∷ []) ∷
@@ -215,6 +217,8 @@ rows =
 
 pub recalls : map (recalled fresh43 nothing) rows
     ≡ (key 2 1 ∷ key 1 1 ∷ [])
+    ∷ (key 2 1 ∷ key 1 1 ∷ [])
+    ∷ (key 2 1 ∷ key 1 1 ∷ [])
     ∷ (key 2 1 ∷ key 1 1 ∷ [])
     ∷ (key 3 1 ∷ key 2 1 ∷ key 1 1 ∷ [])
     ∷ (key 1 1 ∷ [])

@@ -108,6 +108,14 @@ pub sealed-unmarked : Agrees (marked 0) (record { runs = alone .runs; sealed = k
 unfolding cell isLive found
 sealed-unmarked A = let z : _≡_ {A = ℕ} 0 1 = A .marks (key 1 1) refl in omega arith
 
+-- the mark is that of the run's own shared slot
+abbrev crossed : State
+crossed = at (pool 2 2 0 2) (pool 2 2 0 2) 1 (e 1 10 2 1 1 ++ e 1 20 1 2 2) (s 1 200 0 ++ m 1 100 1)
+
+pub mark-crossed : Agrees crossed (record { runs = (key 1 1 ∷ []) ∷ (key 2 1 ∷ []) ∷ []; sealed = key 2 1 ∷ []; put = 2; taken = 0; generation = 1 }) → ⊥
+unfolding cell isLive found
+mark-crossed A = let z : _≡_ {A = ℕ} 1 0 = A .marks (key 1 1) refl in omega arith
+
 -- the counts do not sum to frames put in less frames taken out
 pub count-less : Agrees one (told ((key 1 1 ∷ []) ∷ []) 2 0 1) → ⊥
 unfolding cell
