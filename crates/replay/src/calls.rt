@@ -22,7 +22,7 @@ pub struct Next {
 pub fn make(
     head: Head,
     elems: &mut [u64; 80],
-    shared: &mut [u64; 48],
+    shared: &mut [u64; 64],
     given: &mut [u64; 512],
     record: &[u8; 32],
 ) -> Next {

@@ -12,7 +12,7 @@ use numbers::head::unpack;
 fn replay_one(
     head: &mut [u64; 9],
     elems: &mut [u64; 80],
-    shared: &mut [u64; 48],
+    shared: &mut [u64; 64],
     given: &mut [u64; 512],
     made: &mut u64,
 ) -> bool {
@@ -45,7 +45,7 @@ fn tell(made: u64) {
 fn main() {
     let mut head = [0u64; 9];
     let mut elems = [0u64; 80];
-    let mut shared = [0u64; 48];
+    let mut shared = [0u64; 64];
     let mut given = [0u64; 512];
     let mut made: u64 = 0;
     let mut turns = u64::MAX;

@@ -11,7 +11,7 @@ use sample::key;
 pub fn make(
     head: Head,
     elems: &mut [u64; 80],
-    shared: &mut [u64; 48],
+    shared: &mut [u64; 64],
     given: &mut [u64; 512],
     record: &[u8; 32],
 ) -> Next {
@@ -35,7 +35,7 @@ pub fn make(
 fn fresh(
     head: Head,
     elems: &mut [u64; 80],
-    shared: &mut [u64; 48],
+    shared: &mut [u64; 64],
     given: &mut [u64; 512],
     record: &[u8; 32],
 ) -> Next {
@@ -50,7 +50,7 @@ fn fresh(
 fn drain(
     head: Head,
     elems: &mut [u64; 80],
-    shared: &mut [u64; 48],
+    shared: &mut [u64; 64],
     given: &[u64; 512],
     record: &[u8; 32],
 ) -> Next {
@@ -62,7 +62,7 @@ fn drain(
     Next { head: after, same }
 }
 
-fn drain_all(head: Head, elems: &mut [u64; 80], shared: &mut [u64; 48], record: &[u8; 32]) -> Next {
+fn drain_all(head: Head, elems: &mut [u64; 80], shared: &mut [u64; 64], record: &[u8; 32]) -> Next {
     let mut records = [0u64; 96];
     let step = door::drain_all(head, elems, shared, &mut records);
     let answer = step.answer;
@@ -71,7 +71,7 @@ fn drain_all(head: Head, elems: &mut [u64; 80], shared: &mut [u64; 48], record: 
     Next { head: after, same }
 }
 
-fn clear(head: Head, elems: &mut [u64; 80], shared: &mut [u64; 48], record: &[u8; 32]) -> Next {
+fn clear(head: Head, elems: &mut [u64; 80], shared: &mut [u64; 64], record: &[u8; 32]) -> Next {
     let step = door::clear(head, elems, shared);
     let answer = step.answer;
     let after = step.head;
@@ -83,7 +83,7 @@ fn clear(head: Head, elems: &mut [u64; 80], shared: &mut [u64; 48], record: &[u8
 fn compress(
     head: Head,
     elems: &mut [u64; 80],
-    shared: &mut [u64; 48],
+    shared: &mut [u64; 64],
     given: &mut [u64; 512],
     record: &[u8; 32],
 ) -> Next {
