@@ -1,5 +1,5 @@
 -- A sequence of entries in numbers, in place ones and refused ones among them: what the host lends, is told, and what the history then is.
-use Prim.Native.Nat.{ℕ}
+use Prim.Native.Nat.{ℕ, _*_}
 use mathlib.Core.Path.{refl}
 use mathlib.Core.List.{List, [], _∷_, _++_}
 use lib.ListN.{replicate}
@@ -13,12 +13,12 @@ use Rattle.host.specs.Sequence.{AfterEntries, freshened, called, calledI
 use Rattle.host.proofs.Sequences.{begins, goes-on, goes-on-in-place}
 
 abbrev told : List (List Key) → (put taken generation : ℕ) → History
-told rs p t g = record { runs = rs; put = p; taken = t; generation = g }
+told rs p t g = record { runs = rs; sealed = []; put = p; taken = t; generation = g }
 
 -- fresh over numbers that mean nothing
 fresh43 : AfterEntries (4 ∷ 0 ∷ 0 ∷ 0 ∷ 3 ∷ 0 ∷ 0 ∷ 0 ∷ 1 ∷ []) (zeros frameWidth 4) (zeros headerWidth 3) nothing
 unfolding rules
-fresh43 = begins 4 3 (99 ∷ 98 ∷ []) (replicate 20 97) (replicate 9 96) refl
+fresh43 = begins 4 3 (99 ∷ 98 ∷ []) (replicate (4 * frameWidth) 97) (replicate (3 * headerWidth) 96) refl
 
 -- P1, the first insert in place
 one : AfterEntries (4 ∷ 1 ∷ 0 ∷ 1 ∷ 3 ∷ 1 ∷ 0 ∷ 1 ∷ 1 ∷ []) (e 1 10 1 1 1 ++ zeros frameWidth 3) (s 1 100 0 ++ zeros headerWidth 2) (told ((key 1 1 ∷ []) ∷ []) 1 0 1)

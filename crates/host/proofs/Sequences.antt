@@ -7,13 +7,13 @@ use mathlib.Core.List.{List, []}
 use lib.ListN.{getD}
 use Rattle.rules.specs.declared.Key.{Key}
 use Rattle.rules.specs.Notation.{if_then_else_, _==_}
-use Rattle.rules.specs.Tables.{State}
+use Rattle.rules.specs.Tables.{State, isSealed}
 use Rattle.rules.specs.Sound.{bothFit}
 use Rattle.rules.specs.Refusals.{Ruling, Said, Outcome, outcome}
 use Rattle.rules.specs.Slots
 use Rattle.rules.specs.Slots.{isFull}
 use Rattle.rules.specs.Runs
-use Rattle.rules.specs.Calls.{Call, lenSurject, inSameSurject, getElement, getShared, setElement, setShared, check, newRun, insert, union, remove, removeShared, list, drain, drainAll, clear, exchange, compress, step, AtDoor}
+use Rattle.rules.specs.Calls.{Call, lenSurject, inSameSurject, getElement, getShared, setElement, setShared, check, newRun, insert, union, remove, removeShared, list, drain, seal, drainAll, clear, exchange, compress, step, AtDoor}
 use Rattle.rules.specs.History.{History, accepted, noted, notedFresh, nothing}
 use Rattle.rules.specs.Demand.{After, start, fresh, call, Union}
 use Rattle.rules.proofs.laws.Rulings.{by-test, by-key}
@@ -32,6 +32,7 @@ accepted-heard h (union j k) said = refl
 accepted-heard h (remove k) said = refl
 accepted-heard h (removeShared k) said = refl
 accepted-heard h (drain k) said = refl
+accepted-heard h (seal k) said = refl
 accepted-heard h drainAll said = refl
 accepted-heard h clear said = refl
 accepted-heard h (compress reset) said = refl
@@ -107,7 +108,7 @@ module _ (st : State) (k : Key) where
 
   pub insert-unlent : (payload : ℕ) → step st [] (insert k payload) .lent ≡ []
   unfolding Runs.insert
-  insert-unlent payload = by-key unlent (λ r. refl) st k _ (λ l. by-test unlent (isFull (st .head .elems)) _ _ (λ e. refl) (λ e. refl))
+  insert-unlent payload = by-key unlent (λ r. refl) st k _ (λ l. by-test unlent (isSealed st (k .slot)) _ _ (λ s. refl) (λ s. by-test unlent (isFull (st .head .elems)) _ _ (λ e. refl) (λ e. refl)))
 
   pub remove-unlent : step st [] (remove k) .lent ≡ []
   unfolding Runs.remove

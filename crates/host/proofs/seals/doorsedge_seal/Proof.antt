@@ -16,9 +16,13 @@ sealed-requires c κs = search needs
 same-length : tie.Need-same-length
 same-length c = search needs
 
+same-length-2 : tie.Need-same-length-2
+same-length-2 c = search needs
+
 returns : tie.Need-returns
-returns c = hosted _ _ _ _ _ _ _ _ _ _ _ _ _ _ _ _ (c .before .before .before .before .before .before .unpack .ensures) (c .before .before .before .before .seal .ensures) (sym (c .before .before .before .before .before .before .unpack .ensures)) (c .sealed .ensures)
+returns c = hosted _ _ _ _ _ _ _ _ _ _ _ _ _ _ _ _ (c .before .before .before .before .before .before .before .before .before .unpack .ensures) (c .before .before .before .before .before .before .seal .ensures) (sym (c .before .before .before .before .before .before .before .before .before .unpack .ensures)) (c .sealed .ensures)
 
 pub doorsedge-seal-spec : {M : Type 1} → statement M
 doorsedge-seal-spec =
-    tie.close (tie.spec unpack-requires seal-requires sealed-requires same-length returns)
+    tie.close
+    (tie.spec unpack-requires seal-requires sealed-requires same-length same-length-2 returns)
