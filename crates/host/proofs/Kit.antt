@@ -21,8 +21,8 @@ use Rattle.rules.specs.Calls.{Call, Is, AtDoor, freshStep}
 use Rattle.rules.proofs.laws.Tests.{eq-is}
 use Rattle.rules.proofs.laws.Refused.{refused-changes-nothing, refused-fresh}
 use Rattle.numbers.specs.Numbers.{headOf, values, Answered}
-use Rattle.host.specs.Host.{Left, left, shown, AtHost, AtFresh}
-use Rattle.host.specs.InPlace.{AtHead, leftAt}
+use Rattle.promises.specs.Host.{Left, left, shown, AtHost, AtFresh}
+use Rattle.promises.specs.InPlace.{AtHead, leftAt}
 
 -- a refused call, whose number is not 0, hands back the head that it was given: so that the head is the next one also where it was not stored
 kept : (n : ℕ) (next old : Head) → (n ≢ 0 → next ≡ old) → (if n == 0 then next else old) ≡ next

@@ -1,5 +1,1 @@
 pub mod Kit
-pub mod Only
-pub mod Sequences
-pub mod HostRows
-pub mod Played

@@ -7,7 +7,7 @@ ghost use mathlib.Core.Path.{_≡_};
 ghost use mathlib.Core.List.{[]};
 ghost use Rattle.rules.specs.Calls.{newRun, insert, union, remove, removeShared};
 ghost use Rattle.numbers.specs.Numbers.{values, valuesOver, removalNumbers};
-ghost use Rattle.host.specs.Host.{keyOf, AtHost, left};
+ghost use Rattle.promises.specs.Host.{keyOf, AtHost, left};
 
 // Rules 4: begins a run.
 #[no_mangle]

@@ -4,8 +4,8 @@ use rules::Head;
 use rules::Key;
 ghost use Rattle.rules.specs.Calls.{insert, remove};
 ghost use Rattle.numbers.specs.Numbers.{values, removalNumbers};
-ghost use Rattle.host.specs.Host.{keyOf};
-ghost use Rattle.host.specs.InPlace.{AtHead, leftAt};
+ghost use Rattle.promises.specs.Host.{keyOf};
+ghost use Rattle.promises.specs.InPlace.{AtHead, leftAt};
 
 // The next head, and the entry's result.
 pub struct HeadSaid {

@@ -6,7 +6,7 @@ ghost use mathlib.Core.Path.{_≡_};
 ghost use mathlib.Core.List.{[]};
 ghost use Rattle.rules.specs.Calls.{lenSurject, inSameSurject, getElement, getShared, list};
 ghost use Rattle.numbers.specs.Numbers.{values};
-ghost use Rattle.host.specs.Host.{keyOf, AtHost, left};
+ghost use Rattle.promises.specs.Host.{keyOf, AtHost, left};
 
 // Rules 1: how many frames the key's run has.
 #[no_mangle]

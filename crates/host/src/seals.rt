@@ -4,7 +4,7 @@ use numbers::head::unpack;
 use rules::Key;
 ghost use Rattle.rules.specs.Calls.{seal};
 ghost use Rattle.numbers.specs.Numbers.{values};
-ghost use Rattle.host.specs.Host.{keyOf, AtHost, left};
+ghost use Rattle.promises.specs.Host.{keyOf, AtHost, left};
 
 // Ticket 1: seals the key's run, a place for each of its frames.
 #[no_mangle]

@@ -6,7 +6,7 @@ ghost use mathlib.Core.Path.{_≡_};
 ghost use mathlib.Core.List.{[]};
 ghost use Rattle.rules.specs.Calls.{setElement, setShared, exchange};
 ghost use Rattle.numbers.specs.Numbers.{values};
-ghost use Rattle.host.specs.Host.{keyOf, AtHost, left, keysOf};
+ghost use Rattle.promises.specs.Host.{keyOf, AtHost, left, keysOf};
 
 // Slot and generation of each key in turn.
 fn four_keys(keys: [u64; 8]) -> [Key; 4]

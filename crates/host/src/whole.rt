@@ -7,7 +7,7 @@ ghost use mathlib.Core.Path.{_≡_};
 ghost use mathlib.Core.List.{[]};
 ghost use Rattle.rules.specs.Calls.{check, drain, drainAll, clear, compress};
 ghost use Rattle.numbers.specs.Numbers.{values, valuesOver};
-ghost use Rattle.host.specs.Host.{keyOf, AtHost, left, isSet, AtFresh};
+ghost use Rattle.promises.specs.Host.{keyOf, AtHost, left, isSet, AtFresh};
 
 // Rules 2: empty tables of these capacities; the head and the tables may hold anything.
 #[no_mangle]

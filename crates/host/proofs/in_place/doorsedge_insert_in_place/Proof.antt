@@ -51,8 +51,8 @@ use Rattle.host.proofs.in_place.HeadSaid as N
 use Rattle.host.proofs.in_place.HeadSaid.Laws as N′
 use Rattle.rules.specs.Calls.{insert}
 use Rattle.numbers.specs.Numbers.{values}
-use Rattle.host.specs.Host.{keyOf}
-use Rattle.host.specs.InPlace.{AtHead, leftAt}
+use Rattle.promises.specs.Host.{keyOf}
+use Rattle.promises.specs.InPlace.{AtHead, leftAt}
 use Rattle.host.proofs.in_place.insert_said as callee
 use Rattle.host.proofs.in_place.insert_said.Symbol as callee-def
 use Rattle.host.proofs.in_place.insert_said.Met as callee-thm

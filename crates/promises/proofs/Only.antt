@@ -8,8 +8,8 @@ use Rattle.rules.specs.Refusals.{Said}
 use Rattle.rules.specs.Calls.{Call}
 use Rattle.rules.proofs.Door
 use Rattle.numbers.proofs.Nine.{only-nine}
-use Rattle.host.specs.Host.{Left, left, shown, AtHost, AtFresh}
-use Rattle.host.specs.InPlace.{leftAt, AtHead}
+use Rattle.promises.specs.Host.{Left, left, shown, AtHost, AtFresh}
+use Rattle.promises.specs.InPlace.{leftAt, AtHead}
 
 -- equal in all that a host lent or was given: the result, the head, both tables, the buffer and `out`
 pub record Same {H : Type 0} (r r′ : ℕ) (h h′ : H) (e e′ s s′ l l′ o o′ : List ℕ) : Type 0 where

@@ -9,9 +9,9 @@ use Rattle.rules.specs.Refusals.{Said, Outcome}
 use Rattle.rules.specs.Calls.{Call, lenSurject, inSameSurject, getElement, getShared, setElement, setShared, check, newRun, insert, union, remove, removeShared, list, drain, drainAll, clear, exchange, compress}
 use Rattle.rules.proofs.Cases.{key, pool}
 use Rattle.numbers.specs.Numbers.{headOf, values, valuesOver, removalNumbers}
-use Rattle.host.specs.Host.{keyOf, keysOf, isSet, Left, left, shown}
-use Rattle.host.specs.InPlace.{leftAt}
-use Rattle.host.specs.Sequence.{numbersOf, heard, lentState}
+use Rattle.promises.specs.Host.{keyOf, keysOf, isSet, Left, left, shown}
+use Rattle.promises.specs.InPlace.{leftAt}
+use Rattle.promises.specs.Sequence.{numbersOf, heard, lentState}
 
 -- a key's slot, then its generation; four keys one after another
 one-key : keyOf 5 7 ≡ record { slot = 5; generation = 7 }

@@ -6,7 +6,7 @@ use Rattle.rules.specs.declared.Head.{Head}
 use Rattle.rules.specs.Tables.{stateOf}
 use Rattle.rules.specs.Refusals.{Said, Outcome}
 use Rattle.rules.specs.Calls.{Call, AtDoor}
-use Rattle.host.specs.Host.{Left, shown}
+use Rattle.promises.specs.Host.{Left, shown}
 
 -- what the entry leaves; it has no buffer
 abbrev pub leftAt : (number : ℕ) → Head → (elems shared out : List ℕ) → Left

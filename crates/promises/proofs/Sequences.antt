@@ -20,9 +20,9 @@ use Rattle.rules.proofs.laws.Rulings.{by-test, by-key}
 use Rattle.rules.proofs.laws.DemandThree
 use Rattle.numbers.specs.Numbers.{headOf, values}
 use Rattle.numbers.proofs.Nine.{nineOf, head-of-nine}
-use Rattle.host.specs.Host.{Left, left, shown, AtHost}
-use Rattle.host.specs.InPlace.{leftAt, AtHead}
-use Rattle.host.specs.Sequence.{numbersOf, heard, lentState, AfterEntries, begun, freshened, called, calledInPlace, Demand3AtHost}
+use Rattle.promises.specs.Host.{Left, left, shown, AtHost}
+use Rattle.promises.specs.InPlace.{leftAt, AtHead}
+use Rattle.promises.specs.Sequence.{numbersOf, heard, lentState, AfterEntries, begun, freshened, called, calledInPlace, Demand3AtHost}
 
 -- the history takes from the numbers in `out` what it takes from the answer: the key of a frame put in
 accepted-heard : (h : History) (c : Call) (said : Said) → accepted h c (numbersOf c said) ≡ accepted h c (said .values)

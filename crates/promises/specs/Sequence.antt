@@ -10,8 +10,8 @@ use Rattle.rules.specs.Calls.{Call, lenSurject, inSameSurject, getElement, getS
 use Rattle.rules.specs.History.{History, noted, notedFresh, nothing}
 use Rattle.rules.specs.Demand.{Agrees, Union}
 use Rattle.numbers.specs.Numbers.{headOf, values, valuesOver, removalNumbers}
-use Rattle.host.specs.Host.{Left, left, AtHost, AtFresh}
-use Rattle.host.specs.InPlace.{leftAt, AtHead}
+use Rattle.promises.specs.Host.{Left, left, AtHost, AtFresh}
+use Rattle.promises.specs.InPlace.{leftAt, AtHead}
 
 -- the numbers that the entry of a call writes to `out`
 abbrev pub numbersOf : Call → Said → List ℕ

@@ -9,8 +9,8 @@ use Rattle.rules.specs.Calls.{newRun, insert, union, remove}
 use Rattle.rules.specs.History.{History, othersOf, runsBut, insertedRuns, joinedRuns, removedRuns, nothing}
 use Rattle.rules.proofs.Cases.{rules, key, e, s, zeros}
 use Rattle.numbers.specs.Numbers.{headOf}
-use Rattle.host.specs.Sequence.{AfterEntries, freshened, called, calledInPlace}
-use Rattle.host.proofs.Sequences.{begins, goes-on, goes-on-in-place}
+use Rattle.promises.specs.Sequence.{AfterEntries, freshened, called, calledInPlace}
+use Rattle.promises.proofs.Sequences.{begins, goes-on, goes-on-in-place}
 
 abbrev told : List (List Key) → (put taken generation : ℕ) → History
 told rs p t g = record { runs = rs; sealed = []; put = p; taken = t; generation = g }

@@ -1,0 +1,4 @@
+pub mod Only
+pub mod Sequences
+pub mod HostRows
+pub mod Played
