@@ -1,6 +1,6 @@
 // Frames in and out.
 use crate::calls::Next;
-use crate::names::learn;
+use names::learn;
 use rules::Head;
 use rules::Inserted;
 use sample::REFUSED;

@@ -2,7 +2,6 @@
 // `differential sample` (rust/differential/src/sample.rs says how a record lies); no Rust is at hand here.
 mod calls;
 mod frames;
-mod names;
 mod whole;
 
 use numbers::head::pack;

@@ -1,7 +1,7 @@
 // Calls on a whole ring or on all of them.
 use crate::calls::Next;
-use crate::names::forget;
-use crate::names::relearn;
+use names::forget;
+use names::relearn;
 use rules::Head;
 use sample::is_done;
 use sample::is_drained;

@@ -1,6 +1,6 @@
 use borrow.Author.Needs.{needs}
-use Rattle.replay.proofs.names.relearn_slot.Statement.{statement}
-use Rattle.replay.proofs.names.relearn_slot.Tie as tie
+use Rattle.names.proofs.relearn_slot.Statement.{statement}
+use Rattle.names.proofs.relearn_slot.Tie as tie
 
 returns : tie.Need-returns
 returns c = search needs

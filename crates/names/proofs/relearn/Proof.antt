@@ -1,7 +1,7 @@
--- `replay::names::relearn` is safe and ends: the measure is what is left, and nothing has to hold from turn to turn.
+-- `names::relearn` is safe and ends: the measure is what is left, and nothing has to hold from turn to turn.
 use native.Mathlib.Omega.{arith}
-use Rattle.replay.proofs.names.relearn.Statement.{statement}
-use Rattle.replay.proofs.names.relearn.Tie as tie
+use Rattle.names.proofs.relearn.Statement.{statement}
+use Rattle.names.proofs.relearn.Tie as tie
 
 abbrev Inv-loop : tie.InvT-loop
 Inv-loop given₀ elems slot₀ given slot = Unit {0}
