@@ -1,7 +1,7 @@
 // Frames in and out.
+use heads::store;
+use heads::unpack;
 use numbers::answers;
-use numbers::head::store;
-use numbers::head::unpack;
 use rules::Key;
 ghost use mathlib.Core.Path.{_≡_};
 ghost use mathlib.Core.List.{[]};

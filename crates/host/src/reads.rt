@@ -1,6 +1,6 @@
 // Reads: they change nothing but `out` and the lent places.
+use heads::unpack;
 use numbers::answers;
-use numbers::head::unpack;
 use rules::Key;
 ghost use mathlib.Core.Path.{_≡_};
 ghost use mathlib.Core.List.{[]};

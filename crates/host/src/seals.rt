@@ -1,6 +1,6 @@
 // The seal: count, frames and mark in one call.
+use heads::unpack;
 use numbers::answers;
-use numbers::head::unpack;
 use rules::Key;
 ghost use Rattle.rules.specs.Calls.{seal};
 ghost use Rattle.numbers.specs.Numbers.{values};

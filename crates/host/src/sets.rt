@@ -1,6 +1,6 @@
 // Sets: keys, rings and the head stay as they are.
+use heads::unpack;
 use numbers::answers;
-use numbers::head::unpack;
 use rules::Key;
 ghost use mathlib.Core.Path.{_≡_};
 ghost use mathlib.Core.List.{[]};

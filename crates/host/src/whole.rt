@@ -1,7 +1,7 @@
 // All at once: fresh, the check, drains, clear, compression.
+use heads::store;
+use heads::unpack;
 use numbers::answers;
-use numbers::head::store;
-use numbers::head::unpack;
 use rules::Key;
 ghost use mathlib.Core.Path.{_≡_};
 ghost use mathlib.Core.List.{[]};

@@ -1,7 +1,7 @@
 // The map from the sample's frames to keys, kept as keys are given: a slot for each frame, then a generation for each.
 // Frame 255 was never given one.
+use keyed::wide;
 use rules::Key;
-use sample::wide;
 
 pub fn learn(given: &mut [u64; 512], frame: u8, key: Key) {
     let at = wide(frame);

@@ -1,3 +1,2 @@
-// Numbers, as a host has them: the nine of a head, the one of a refusal, and those of an answer.
+// Numbers, as a host has them: the one of a refusal, and those of an answer. Those of a head, which Numbers in specs says too, are read and stored in crate heads.
 pub mod answers;
-pub mod head;

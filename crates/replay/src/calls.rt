@@ -1,16 +1,16 @@
 // A record's call, made at the host's door and compared with the record's answers: reads and sets here.
 use crate::frames;
 use crate::whole;
+use keyed::is_list;
+use keyed::key;
 use rules::Done;
 use rules::Head;
 use rules::Key;
 use sample::REFUSED;
 use sample::is_answer;
 use sample::is_done;
-use sample::is_list;
 use sample::is_number;
 use sample::is_same;
-use sample::key;
 use sample::number;
 
 // The head after a call, and whether the answer was the same.

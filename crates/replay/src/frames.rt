@@ -1,14 +1,14 @@
 // Frames in and out.
 use crate::calls::Next;
+use keyed::is_joined;
+use keyed::key;
 use names::learn;
 use rules::Head;
 use rules::Inserted;
 use sample::REFUSED;
-use sample::is_joined;
 use sample::is_number;
 use sample::is_refused;
 use sample::is_removed;
-use sample::key;
 use sample::number;
 
 pub fn make(

@@ -4,8 +4,8 @@ mod calls;
 mod frames;
 mod whole;
 
-use numbers::head::pack;
-use numbers::head::unpack;
+use heads::pack;
+use heads::unpack;
 
 // Replays the next record, and answers whether to go on.
 fn replay_one(

@@ -1,12 +1,12 @@
 // Calls on a whole ring or on all of them.
 use crate::calls::Next;
+use keyed::is_drained;
+use keyed::key;
 use names::forget;
 use names::relearn;
 use rules::Head;
 use sample::is_done;
-use sample::is_drained;
 use sample::is_number;
-use sample::key;
 
 pub fn make(
     head: Head,

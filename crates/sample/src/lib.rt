@@ -1,11 +1,4 @@
 // Whether what the door says is what the Rust said: each test is passed only where they agree (Running against the Rust).
-mod keys;
-
-pub use keys::is_drained;
-pub use keys::is_joined;
-pub use keys::is_list;
-pub use keys::key;
-pub use keys::wide;
 use numbers::answers::number_of;
 use rules::Done;
 use rules::Number;
