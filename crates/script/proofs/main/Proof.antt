@@ -1,7 +1,7 @@
 -- `script::main` meets its contract.
 use mathlib.Core.Path.{refl}
 use lib.Dec.{lit<, lit≤}
-use Rattle.script.proofs.Steps.{started}
+use Rattle.blocks.proofs.Steps.{started}
 use borrow.Author.Needs.{needs}
 use Rattle.script.proofs.main.Statement.{statement}
 use Rattle.script.proofs.main.Tie as tie

@@ -1,5 +1,5 @@
 -- `script::run` meets its contract. The invariant: of some input, all was read, and what was printed and handed over is what Script says of it.
-use Rattle.script.proofs.Steps.{Lengths, Reading, reading-start, reading-next}
+use Rattle.blocks.proofs.Steps.{Lengths, Reading, reading-start, reading-next}
 use lib.ListN.{length}
 use native.Mathlib.Omega.{arith}
 use mathlib.Core.Logic.{⊎-elim}

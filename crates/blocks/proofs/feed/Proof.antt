@@ -1,12 +1,12 @@
--- `script::feed` meets its contract. The invariant: what was read of the block is obeyed and printed as Script says, and slices keep their lengths.
+-- `blocks::feed` meets its contract. The invariant: what was read of the block is obeyed and printed as Script says, and slices keep their lengths.
 use Prim.Native.Nat.{_-_}
 use mathlib.Core.Path.{refl}
 use borrow.Author.Needs.{needs}
 use native.Mathlib.Omega.{arith}
 use lib.ListN.{length}
-use Rattle.script.proofs.Steps.{Feeding, feeding-start, feeding-next, fed, Lengths}
-use Rattle.script.proofs.feed.Statement.{statement}
-use Rattle.script.proofs.feed.Tie as tie
+use Rattle.blocks.proofs.Steps.{Feeding, feeding-start, feeding-next, fed, Lengths}
+use Rattle.blocks.proofs.feed.Statement.{statement}
+use Rattle.blocks.proofs.feed.Tie as tie
 
 abbrev Inv-loop : tie.InvT-loop
 Inv-loop elems₀ shared₀ keys₀ out₀ line₀ block q₀ elems shared keys out line q =

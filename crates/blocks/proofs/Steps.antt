@@ -16,8 +16,8 @@ use Rattle.lines.specs.Obeys.{replyMost}
 use Rattle.lines.specs.declared.stream.Gathered.{Gathered}
 use Rattle.lines.specs.Stream.{Gathers, freshState}
 use Rattle.lines.proofs.Follows.{follows-block, follows-room, follows-part, follows-line, follows-start}
-use Rattle.script.specs.declared.Progress.{Progress}
-use Rattle.script.specs.Progress.{Working, Answered, Doing, Advanced, Fed}
+use Rattle.blocks.specs.declared.Progress.{Progress}
+use Rattle.blocks.specs.Progress.{Working, Answered, Doing, Advanced, Fed}
 use Rattle.stdio.specs.declared.Sent.{Sent}
 use Rattle.stdio.specs.Handed.{Handed}
 

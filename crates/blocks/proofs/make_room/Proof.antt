@@ -1,12 +1,12 @@
--- `script::make_room` meets its contract.
+-- `blocks::make_room` meets its contract.
 use lib.Seq.{length-take-le}
 use lib.ListN.{take}
 use native.Mathlib.Omega.{arith}
 use mathlib.Core.List.{_++_, append-nil}
 use mathlib.Core.Path.{refl}
 use borrow.Author.Needs.{needs}
-use Rattle.script.proofs.make_room.Statement.{statement}
-use Rattle.script.proofs.make_room.Tie as tie
+use Rattle.blocks.proofs.make_room.Statement.{statement}
+use Rattle.blocks.proofs.make_room.Tie as tie
 
 sub-if1 : tie.Need-sub-if1
 sub-if1 c = search needs

@@ -1,10 +1,10 @@
--- `script::answer` meets its contract.
+-- `blocks::answer` meets its contract.
 use lib.Seq.{length-take-le}
 use native.Mathlib.Omega.{arith}
 use mathlib.Core.Path.{refl, sym}
 use borrow.Author.Needs.{needs}
-use Rattle.script.proofs.answer.Statement.{statement}
-use Rattle.script.proofs.answer.Tie as tie
+use Rattle.blocks.proofs.answer.Statement.{statement}
+use Rattle.blocks.proofs.answer.Tie as tie
 
 make-room-requires : tie.Need-make-room-requires
 make-room-requires c κs = search needs

@@ -1,9 +1,9 @@
--- `script::advance` meets its contract.
-use Rattle.script.proofs.Steps.{Same, advanced-line, advanced-part}
+-- `blocks::advance` meets its contract.
+use Rattle.blocks.proofs.Steps.{Same, advanced-line, advanced-part}
 use native.Mathlib.Omega.{arith}
 use borrow.Author.Needs.{needs}
-use Rattle.script.proofs.advance.Statement.{statement}
-use Rattle.script.proofs.advance.Tie as tie
+use Rattle.blocks.proofs.advance.Statement.{statement}
+use Rattle.blocks.proofs.advance.Tie as tie
 
 gather-requires : tie.Need-gather-requires
 gather-requires c κs = search needs

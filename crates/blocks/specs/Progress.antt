@@ -11,8 +11,8 @@ use Rattle.lines.specs.Obeys.{replyMost, ObeysLine}
 use Rattle.lines.specs.Stream.{Follows}
 use Rattle.stdio.specs.declared.Sent.{Sent}
 use Rattle.stdio.specs.Handed.{Handed}
-use Rattle.script.specs.declared.Place.{Place}
-use Rattle.script.specs.declared.Progress.{Progress}
+use Rattle.blocks.specs.declared.Place.{Place}
+use Rattle.blocks.specs.declared.Progress.{Progress}
 
 -- the state is ready for a line, and the buffers are as long as a line and its reply need
 pub record Working (st : State) (lent out kept : List ℕ) (filled had : ℕ) : Type 0 where
