@@ -175,11 +175,14 @@ module _ (st : State) (R : Ready st) (sc₀ : List ℕ) (g : ℕ) (e₁ sc₁ : 
     header-is f h = upto-is (length cs) (λ d. getD (movedHeader st (getD cs (d - 1) 0)) f 0) (cell headerWidth s′ f) (cell-none headerWidth s′ f)
         (λ k l. header-new f k h l) (λ u l. cell-past headerWidth s′ f (length cs) u l (λ j a. P .zeros j (rw classes-many at a)))
 
+    lengths : (length (renumbered st fs cs g .elems) ≡ st .head .elems .capacity * frameWidth) × (length (renumbered st fs cs g .shared) ≡ st .head .shared .capacity * headerWidth)
+    lengths = renumbered-lengths (st .head .elems .capacity) (st .head .shared .capacity) st W fs cs g (frames-listed st W) CL (live-fits (W .elems)) (live-fits (W .shared))
+
     -- THE TABLES are the rule's
     pub elems-final : e ≡ renumbered st (canonicalFrames st) (canonicalClasses st) g .elems
-    elems-final = cells-ext frameWidth (st .head .elems .capacity) e (renumbered st fs cs g .elems) (omega arith) (P .beside .long ∙ G .long ∙ H .elems .long) (renumbered-lengths st W g .0)
-        (λ f h. frame-is f h (ℕ-discrete f (frameAt .class)) ∙ sym (frame-column st fs cs g f h))
+    elems-final = cells-ext frameWidth (st .head .elems .capacity) e (renumbered st fs cs g .elems) (omega arith) (P .beside .long ∙ G .long ∙ H .elems .long) (lengths .0)
+        (λ f h. frame-is f h (ℕ-discrete f (frameAt .class)) ∙ sym (frame-column (st .head .elems .capacity) (st .head .shared .capacity) st fs cs g f h))
 
     pub shared-final : s′ ≡ renumbered st (canonicalFrames st) (canonicalClasses st) g .shared
-    shared-final = cells-ext headerWidth (st .head .shared .capacity) s′ (renumbered st fs cs g .shared) (omega arith) (P .long ∙ H .shared .long) (renumbered-lengths st W g .1)
-        (λ f h. header-is f h ∙ sym (header-column st fs cs g f h))
+    shared-final = cells-ext headerWidth (st .head .shared .capacity) s′ (renumbered st fs cs g .shared) (omega arith) (P .long ∙ H .shared .long) (lengths .1)
+        (λ f h. header-is f h ∙ sym (header-column (st .head .elems .capacity) (st .head .shared .capacity) st fs cs g f h))

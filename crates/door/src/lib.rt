@@ -17,5 +17,6 @@ pub use door_runs::remove_element;
 pub use door_runs::union;
 pub use door_whole::clear;
 pub use door_whole::compress_canonical;
+pub use door_whole::compress_with;
 pub use door_whole::fresh;
 pub use gate::check;

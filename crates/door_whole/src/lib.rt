@@ -3,12 +3,14 @@ use gate::gate;
 use rules::Done;
 use rules::Head;
 use rules::HeadDone;
+use rules::HeadNumber;
+use rules::Number;
 ghost use mathlib.Core.Path.{_≡_};
 ghost use mathlib.Core.Bool.{false};
 ghost use mathlib.Core.List.{[]};
 ghost use Rattle.rules.specs.Tables.{stateOf};
-ghost use Rattle.rules.specs.Answers.{afterDone};
-ghost use Rattle.rules.specs.Calls.{AtDoor, freshStep, clear, compress};
+ghost use Rattle.rules.specs.Answers.{afterDone, afterNumber};
+ghost use Rattle.rules.specs.Calls.{AtDoor, freshStep, clear, compress, compressWith};
 
 // Rules 2, fresh: it has no door but its own, and gives only 1.
 pub fn fresh(
@@ -54,5 +56,25 @@ pub fn compress_canonical(
             over: false,
         },
         Done::Done => compress::compress_canonical(head, elems, shared, scratch, reset),
+    }
+}
+
+// Ticket 3: compress with the slot order kept, and the new keys told.
+pub fn compress_with(
+    head: Head,
+    elems: &mut [u64],
+    shared: &mut [u64],
+    pairs: &mut [u64],
+    reset: bool,
+) -> HeadNumber
+    ensures { λ r. ⌜ AtDoor (stateOf head (now (elems .entry)) (now (shared .entry))) (now (pairs .entry)) (compressWith reset) (afterNumber r (now (elems .exit)) (now (shared .exit)) (now (pairs .exit))) ⌝ }
+{
+    match gate(head, elems, shared) {
+        Done::Refused(n) => HeadNumber {
+            head,
+            answer: Number::Refused(n),
+            over: false,
+        },
+        Done::Done => ordered::compress_with(head, elems, shared, pairs, reset),
     }
 }

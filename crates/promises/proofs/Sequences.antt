@@ -13,7 +13,7 @@ use Rattle.rules.specs.Refusals.{Ruling, Said, Outcome, outcome}
 use Rattle.rules.specs.Slots
 use Rattle.rules.specs.Slots.{isFull}
 use Rattle.rules.specs.Runs
-use Rattle.rules.specs.Calls.{Call, lenSurject, inSameSurject, getElement, getShared, setElement, setShared, check, newRun, insert, union, remove, removeShared, list, drain, seal, drainAll, clear, exchange, compress, step, AtDoor}
+use Rattle.rules.specs.Calls.{Call, lenSurject, inSameSurject, getElement, getShared, setElement, setShared, check, newRun, insert, union, remove, removeShared, list, drain, seal, drainAll, clear, exchange, compress, compressWith, step, AtDoor}
 use Rattle.rules.specs.History.{History, accepted, noted, notedFresh, nothing}
 use Rattle.rules.specs.Demand.{After, start, fresh, call, Union}
 use Rattle.rules.proofs.laws.Rulings.{by-test, by-key}
@@ -36,6 +36,7 @@ accepted-heard h (seal k) said = refl
 accepted-heard h drainAll said = refl
 accepted-heard h clear said = refl
 accepted-heard h (compress reset) said = refl
+accepted-heard h (compressWith reset) said = refl
 accepted-heard h (lenSurject k) said = refl
 accepted-heard h (inSameSurject j k) said = refl
 accepted-heard h (getElement k) said = refl

@@ -6,7 +6,7 @@ use mathlib.Core.List.{List, []}
 use Rattle.rules.specs.declared.Key.{Key}
 use Rattle.rules.specs.Tables.{State, stateOf}
 use Rattle.rules.specs.Refusals.{Said}
-use Rattle.rules.specs.Calls.{Call, lenSurject, inSameSurject, getElement, getShared, setElement, setShared, check, newRun, insert, union, remove, removeShared, list, drain, seal, drainAll, clear, exchange, compress}
+use Rattle.rules.specs.Calls.{Call, lenSurject, inSameSurject, getElement, getShared, setElement, setShared, check, newRun, insert, union, remove, removeShared, list, drain, seal, drainAll, clear, exchange, compress, compressWith}
 use Rattle.rules.specs.History.{History, noted, notedFresh, nothing}
 use Rattle.rules.specs.Demand.{Agrees, Union}
 use Rattle.numbers.specs.Numbers.{headOf, values, valuesOver, removalNumbers}
@@ -19,6 +19,7 @@ numbersOf (remove k) = removalNumbers
 numbersOf (removeShared k) = valuesOver
 numbersOf clear = valuesOver
 numbersOf (compress reset) = valuesOver
+numbersOf (compressWith reset) = valuesOver
 numbersOf (newRun payload value) = values
 numbersOf (insert k payload) = values
 numbersOf (union j k) = values

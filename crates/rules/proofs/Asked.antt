@@ -13,7 +13,7 @@ use Rattle.rules.specs.declared.Found.the-variants as lookup
 use Rattle.rules.specs.declared.Refusal.the-variants.{Shape, Unsound, Dead, SameClass, NoElement, NoShared, Short, Malformed, Sealed}
 use Rattle.rules.specs.Tables.{State, LiveKey}
 use Rattle.rules.specs.Refusals.{numberOf}
-use Rattle.rules.specs.Calls.{Call, lenSurject, inSameSurject, getElement, getShared, setElement, setShared, check, newRun, insert, union, remove, removeShared, list, drain, seal, drainAll, clear, exchange, compress}
+use Rattle.rules.specs.Calls.{Call, lenSurject, inSameSurject, getElement, getShared, setElement, setShared, check, newRun, insert, union, remove, removeShared, list, drain, seal, drainAll, clear, exchange, compress, compressWith}
 use Rattle.rules.specs.Exact.{Asks, asks, Sentence, earlier, Given, Accepted}
 use Rattle.rules.proofs.Cases.{rules, key, pool, at, e, s, m}
 use Rattle.rules.proofs.Worked.{three, four, goesOn, single}
@@ -31,7 +31,7 @@ abbrev b : Key
 b = key 1 1
 
 pub asked : map (asks goesOn) (lenSurject a ∷ inSameSurject a b ∷ getElement a ∷ getShared a ∷ setElement a 9 ∷ setShared a 9 ∷ check ∷ newRun 9 9 ∷ insert a 9 ∷ union a b ∷ remove a ∷ removeShared a ∷ list a ∷ drain a ∷ seal a ∷ clear ∷ exchange (a ∷ b ∷ []) (9 ∷ 9 ∷ []) ∷ drainAll ∷ [])
-    ++ map (asks single) (compress true ∷ [])
+    ++ map (asks single) (compress true ∷ compressWith true ∷ [])
     ≡ want (a ∷ []) false false false false 0
     ∷ want (a ∷ b ∷ []) false false false false 0
     ∷ want (a ∷ []) false false false false 0
@@ -51,6 +51,7 @@ pub asked : map (asks goesOn) (lenSurject a ∷ inSameSurject a b ∷ getElement
     ∷ want (a ∷ b ∷ []) true false false false 0
     ∷ want [] false false false false 18
     ∷ want [] false false false false 20
+    ∷ want [] false false false false 4
     ∷ []
 unfolding rules
 asked = refl

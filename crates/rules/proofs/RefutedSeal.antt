@@ -10,9 +10,10 @@ use Rattle.rules.specs.declared.Key.{Key}
 use Rattle.rules.specs.declared.Found.{Found}
 use Rattle.rules.specs.declared.Found.the-variants as lookup
 use Rattle.rules.specs.Tables.{frameWidth, headerWidth, State}
-use Rattle.rules.specs.Calls.{newRun, remove, seal, compress, AtDoor}
-use Rattle.rules.specs.History.{History, othersOf, runsBut, removedRuns, sorted, begunAt, ordered, renamed}
+use Rattle.rules.specs.Calls.{newRun, remove, seal, compress, compressWith, AtDoor}
+use Rattle.rules.specs.History.{History, othersOf, runsBut, removedRuns, sorted, begunAt, ordered, renamed, movedDown}
 use Rattle.rules.specs.Demand.{After, In}
+use Rattle.rules.specs.Renaming.{Compresses, canonical, kept}
 use Rattle.rules.specs.Sealing.{keysWritten, Since, begin, fresh, call, compression, Sealed, Sealing}
 use Rattle.rules.proofs.Cases.{rules, key, ok, refused, pool, at, e, s, m, zeros}
 use Rattle.rules.proofs.Worked.{fresh43, one, three}
@@ -98,6 +99,13 @@ says-so a lent d C = other-count (C three ring a lent (key 2 1) (ok (3 ∷ 2 ∷
 
 -- ---- the calls meant: none; fresh, accepted and refused; one that takes the frame out; one that is refused; compression
 
+-- only the two compressions rename
+no-removal : {k : Key} → Compresses (remove k) → ⊥
+no-removal = elim [ ]
+
+no-new-run : {payload value : ℕ} → Compresses (newRun payload value) → ⊥
+no-new-run = elim [ ]
+
 pub none-yet : Later one1 alone1 (key 1 1 ∷ [])
 none-yet = begin
 
@@ -114,16 +122,16 @@ gone = at (pool 4 1 1 0) (pool 3 1 1 0) 2 (zeros frameWidth 4) (zeros headerWidt
 
 pub taken-out : Later one1 alone1 (key 1 1 ∷ []) → AtDoor one1 [] (remove (key 1 1)) (ok (10 ∷ 100 ∷ []) gone []) → Later gone (sealedHistory [] [] 1 1 2) []
 unfolding rules othersOf runsBut removedRuns
-taken-out l d = call l [] (remove (key 1 1)) (ok (10 ∷ 100 ∷ []) gone []) d (λ reset q _. let z : _≡_ {A = ℕ} 0 1 = cc in omega arith)
+taken-out l d = call l [] (remove (key 1 1)) (ok (10 ∷ 100 ∷ []) gone []) d (λ r. absurd (no-removal r))
 
 abbrev beside : State
 beside = at (pool 4 2 0 2) (pool 3 2 0 2) 1 (e 1 10 1 1 1 ++ e 1 20 2 2 2 ++ zeros frameWidth 2) (m 1 100 1 ++ s 1 200 0 ++ zeros headerWidth 1)
 
 pub other-run : Later one1 alone1 (key 1 1 ∷ []) → AtDoor one1 [] (newRun 20 200) (ok (2 ∷ 1 ∷ []) beside []) → Later beside (sealedHistory ((key 2 1 ∷ []) ∷ (key 1 1 ∷ []) ∷ []) (key 1 1 ∷ []) 2 0 1) (key 1 1 ∷ [])
-other-run l d = call l [] (newRun 20 200) (ok (2 ∷ 1 ∷ []) beside []) d (λ reset q _. let z : _≡_ {A = ℕ} 0 1 = cc in omega arith)
+other-run l d = call l [] (newRun 20 200) (ok (2 ∷ 1 ∷ []) beside []) d (λ r. absurd (no-new-run r))
 
 pub refused-compress : Later one1 alone1 (key 1 1 ∷ []) → AtDoor one1 [] (compress true) (refused 7 one1 []) → Later one1 alone1 (key 1 1 ∷ [])
-refused-compress l d = call l [] (compress true) (refused 7 one1 []) d (λ reset q z. omega (arith, z))
+refused-compress l d = call l [] (compress true) (refused 7 one1 []) d (λ r z. omega (arith, z))
 
 -- compression gives the frame its new key, with and without reset
 abbrev behind : State
@@ -140,8 +148,20 @@ frontRun g = sealedHistory ((key 1 g ∷ []) ∷ []) (key 1 g ∷ []) 2 1 g
 
 pub compressed : Later behind behindRun (key 2 1 ∷ []) → AtDoor behind (replicate 20 0) (compress false) (ok [] (front 3) (replicate 20 0)) → Later (front 3) (frontRun 3) (key 1 3 ∷ [])
 unfolding rules sorted begunAt ordered renamed
-compressed l d = compression l (replicate 20 0) false (ok [] (front 3) (replicate 20 0)) d refl
+compressed l d = compression l (replicate 20 0) (compress false) (canonical false) (ok [] (front 3) (replicate 20 0)) d refl
 
 pub reset : Later behind behindRun (key 2 1 ∷ []) → AtDoor behind (replicate 20 0) (compress true) (ok [] (front 1) (replicate 20 0)) → Later (front 1) (frontRun 1) (key 1 1 ∷ [])
 unfolding rules sorted begunAt ordered renamed
-reset l d = compression l (replicate 20 0) true (ok [] (front 1) (replicate 20 0)) d refl
+reset l d = compression l (replicate 20 0) (compress true) (canonical true) (ok [] (front 1) (replicate 20 0)) d refl
+
+-- and so does the one that keeps the slot order
+pub moved-down : Later behind behindRun (key 2 1 ∷ []) → AtDoor behind (replicate 4 0) (compressWith false) (ok (1 ∷ []) (front 3) (2 ∷ 1 ∷ 1 ∷ 3 ∷ [])) → Later (front 3) (frontRun 3) (key 1 3 ∷ [])
+unfolding rules movedDown
+moved-down l d = compression l (replicate 4 0) (compressWith false) (kept false) (ok (1 ∷ []) (front 3) (2 ∷ 1 ∷ 1 ∷ 3 ∷ [])) d refl
+
+pub moved-down-reset : Later behind behindRun (key 2 1 ∷ []) → AtDoor behind (replicate 4 0) (compressWith true) (ok (1 ∷ []) (front 1) (2 ∷ 1 ∷ 1 ∷ 1 ∷ [])) → Later (front 1) (frontRun 1) (key 1 1 ∷ [])
+unfolding rules movedDown
+moved-down-reset l d = compression l (replicate 4 0) (compressWith true) (kept true) (ok (1 ∷ []) (front 1) (2 ∷ 1 ∷ 1 ∷ 1 ∷ [])) d refl
+
+pub refused-moved-down : Later one1 alone1 (key 1 1 ∷ []) → AtDoor one1 [] (compressWith true) (refused 7 one1 []) → Later one1 alone1 (key 1 1 ∷ [])
+refused-moved-down l d = call l [] (compressWith true) (refused 7 one1 []) d (λ r z. omega (arith, z))

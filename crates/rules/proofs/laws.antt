@@ -56,3 +56,6 @@ pub mod Drained
 pub mod Sealed
 pub mod Kept
 pub mod Doors
+pub mod SameRuns
+pub mod Ranks
+pub mod Written

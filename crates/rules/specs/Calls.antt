@@ -15,7 +15,7 @@ use Rattle.rules.specs.Seals
 use Rattle.rules.specs.Exchange
 use Rattle.rules.specs.Compress
 
--- Rules 1 and 4 to 14, and Ticket 1
+-- Rules 1 and 4 to 14, and Tickets 1 and 3
 pub data Call : Type 0 where
   lenSurject getElement getShared remove removeShared list drain seal : Key → Call
   inSameSurject union : (j k : Key) → Call
@@ -23,7 +23,7 @@ pub data Call : Type 0 where
   setShared : Key → (value : ℕ) → Call
   exchange : List Key → (values : List ℕ) → Call
   newRun : (payload value : ℕ) → Call
-  compress : (reset : Bool) → Call
+  compress compressWith : (reset : Bool) → Call
   check drainAll clear : Call
 
 abbrev pub ruling : State → (lent : List ℕ) → Call → Ruling
@@ -46,6 +46,7 @@ ruling st lent drainAll = Drains.drainAll st lent
 ruling st lent clear = Drains.clear st
 ruling st lent (exchange keys values) = Exchange.exchange st keys values
 ruling st lent (compress reset) = Compress.compress st lent reset
+ruling st lent (compressWith reset) = Compress.compressWith st lent reset
 
 -- Tables, last: the inner door, which rests on soundness; and what that is
 pub record Ready (st : State) : Type 0 where

@@ -15,7 +15,8 @@ use Rattle.rules.specs.Sound.{Sound}
 use Rattle.rules.specs.Refusals.{shaped}
 use Rattle.rules.specs.Drains.{keyWidth, recordWidth}
 use Rattle.rules.specs.Seals.{sealWidth}
-use Rattle.rules.specs.Calls.{Call, lenSurject, inSameSurject, getElement, getShared, setElement, setShared, check, newRun, insert, union, remove, removeShared, list, drain, seal, drainAll, clear, exchange, compress}
+use Rattle.rules.specs.Compress.{pairWidth}
+use Rattle.rules.specs.Calls.{Call, lenSurject, inSameSurject, getElement, getShared, setElement, setShared, check, newRun, insert, union, remove, removeShared, list, drain, seal, drainAll, clear, exchange, compress, compressWith}
 
 -- one of these, two of these, none of these
 abbrev pub Some : {A : Type 0} → (A → Type 0) → List A → Type 0
@@ -61,7 +62,7 @@ writing keys numbers = record { keys = keys; apart = false; unsealed = false; sh
 abbrev pub sealing : List Key → (numbers : ℕ) → Asks
 sealing keys numbers = record { keys = keys; apart = false; unsealed = true; shared = false; element = false; numbers = numbers }
 
--- Refusals, below the table: listing, draining and sealing need as many places as frames written, compression as many slots as the element capacity
+-- Refusals, below the table: listing, draining and sealing need as many places as frames written, compression as many slots as the element capacity; Ticket 3: a pair for each frame
 abbrev pub asks : State → Call → Asks
 asks st (lenSurject k) = onKeys (k ∷ [])
 asks st (inSameSurject j k) = onKeys (j ∷ k ∷ [])
@@ -82,6 +83,7 @@ asks st drainAll = writing [] (st .head .elems .live * recordWidth)
 asks st clear = onKeys []
 asks st (exchange keys values) = onKeysApart keys
 asks st (compress reset) = writing [] (st .head .elems .capacity * frameWidth)
+asks st (compressWith reset) = writing [] (st .head .elems .live * pairWidth)
 
 -- 5 and 6: the free root is 0 and extent equals capacity
 abbrev pub Full : Pool → Type 0

@@ -2,23 +2,26 @@
 use Prim.Native.Nat.{ℕ, zero, suc, _≤_}
 use mathlib.Core.Path.{_≡_}
 use mathlib.Core.Logic.{_≢_}
-use mathlib.Core.Bool.{Bool}
 use mathlib.Core.List.{List, [], _∷_, map}
 use lib.ListN.{length, getD, drop}
 use Rattle.rules.specs.declared.Key.{Key}
-use Rattle.rules.specs.Notation.{if_then_else_}
 use Rattle.rules.specs.Tables.{State, LiveKey, markOf}
 use Rattle.rules.specs.Refusals.{Outcome}
-use Rattle.rules.specs.Slots.{raised}
 use Rattle.rules.specs.Seals.{sealWidth}
-use Rattle.rules.specs.Calls.{Call, compress, seal, freshStep, AtDoor}
-use Rattle.rules.specs.History.{History, answeredKey, runOf, ordered, renamed, stillIn, noted, notedFresh}
+use Rattle.rules.specs.Calls.{Call, seal, freshStep, AtDoor}
+use Rattle.rules.specs.Renaming.{Compresses, canonical, kept}
+use Rattle.rules.specs.History.{History, answeredKey, runOf, byRun, bySlot, stillIn, noted, notedFresh}
 use Rattle.rules.specs.Demand.{After, In, headerOf}
 
 -- the keys in the first places that a seal wrote
 unfoldable pub keysWritten : (places : ℕ) → (lent : List ℕ) → List Key
 keysWritten zero lent = []
 keysWritten (suc n) lent = answeredKey lent ∷ keysWritten n (drop sealWidth lent)
+
+-- how a compression renames frames in the history
+abbrev pub newKey : History → {c : Call} → Compresses c → Key → Key
+newKey h (canonical reset) = byRun h reset
+newKey h (kept reset) = bySlot h reset
 
 -- Any further calls from the state `st` and history `h` on. Beside them, what has become of the frames `ks`: those that are still there, under the keys that they have now.
 pub data Since (st : State) (h : History) (ks : List Key) : State → History → List Key → Type 0 where
@@ -27,10 +30,10 @@ pub data Since (st : State) (h : History) (ks : List Key) : State → History �
       → Since st h ks (freshStep st′ elems shared .state) (notedFresh h′ (freshStep st′ elems shared .said)) (stillIn (notedFresh h′ (freshStep st′ elems shared .said) .runs) ks′)
   -- any call but an accepted compression
   call : {st′ : State} {h′ : History} {ks′ : List Key} → Since st h ks st′ h′ ks′ → (lent : List ℕ) (c : Call) (o : Outcome) → AtDoor st′ lent c o
-      → ((reset : Bool) → c ≡ compress reset → o .said .number ≢ 0) → Since st h ks (o .state) (noted h′ c (o .said)) (stillIn (noted h′ c (o .said) .runs) ks′)
+      → (Compresses c → o .said .number ≢ 0) → Since st h ks (o .state) (noted h′ c (o .said)) (stillIn (noted h′ c (o .said) .runs) ks′)
   -- an accepted compression, which renames every frame
-  compression : {st′ : State} {h′ : History} {ks′ : List Key} → Since st h ks st′ h′ ks′ → (lent : List ℕ) (reset : Bool) (o : Outcome) → AtDoor st′ lent (compress reset) o → o .said .number ≡ 0
-      → Since st h ks (o .state) (noted h′ (compress reset) (o .said)) (map (renamed (if reset then 1 else raised (h′ .generation)) (ordered (h′ .runs))) ks′)
+  compression : {st′ : State} {h′ : History} {ks′ : List Key} → Since st h ks st′ h′ ks′ → (lent : List ℕ) (c : Call) (r : Compresses c) (o : Outcome) → AtDoor st′ lent c o → o .said .number ≡ 0
+      → Since st h ks (o .state) (noted h′ c (o .said)) (map (newKey h′ r) ks′)
 
 -- what holds of an accepted seal at the key `k`
 pub record Sealed (st : State) (h : History) (k : Key) (o : Outcome) : Type 0 where

@@ -22,7 +22,9 @@ use Rattle.rules.specs.Seals.{sealWidth, sealed}
 use Rattle.rules.specs.Exchange
 use Rattle.rules.specs.Exchange.{allDiffer, valued}
 use Rattle.rules.specs.Compress
-use Rattle.rules.specs.Calls.{Call, lenSurject, inSameSurject, getElement, getShared, setElement, setShared, check, newRun, insert, union, remove, removeShared, list, drain, seal, drainAll, clear, exchange, compress, ruling, Ready}
+use Rattle.rules.specs.Compress.{pairWidth}
+use Rattle.rules.specs.Calls.{Call, lenSurject, inSameSurject, getElement, getShared, setElement, setShared, check, newRun, insert, union, remove, removeShared, list, drain, seal, drainAll, clear, exchange, compress, compressWith, ruling, Ready}
+use Rattle.rules.specs.Renaming.{Compresses, canonical, kept}
 use Rattle.rules.proofs.laws.Columns.{cell-zeros, cols, upd-same, upd-other}
 use Rattle.rules.proofs.laws.Working.{View, view}
 use Rattle.rules.proofs.laws.Safe.{working}
@@ -96,8 +98,8 @@ module _ (st : State) (R : Ready st) where
   unfolding setElementV
   set-closed x payload h = let e = elementSet-view st R x payload h in closed-same (view st) (view (elementSet st x payload)) (ap (λ (v : View). v .gen) e) (ap (λ (v : View). v .class) e) (ap (λ (v : View). v .mark) e)
 
-  pub closes : (lent : List ℕ) (c : Call) → ((reset : Bool) → c ≡ compress reset → outcome st lent (ruling st lent c) .said .number ≢ 0) → Closes st (ruling st lent c)
-  unfolding Reads.lenSurject Reads.inSameSurject Reads.getElement Reads.getShared Reads.setElement Reads.setShared Runs.newRun Runs.insert Runs.keeping Runs.union Runs.remove Drains.removeShared Drains.list Drains.drain Drains.drainAll Drains.clear Drains.cleared Seals.seal Exchange.exchange Compress.compress
+  pub closes : (lent : List ℕ) (c : Call) → (Compresses c → outcome st lent (ruling st lent c) .said .number ≢ 0) → Closes st (ruling st lent c)
+  unfolding Reads.lenSurject Reads.inSameSurject Reads.getElement Reads.getShared Reads.setElement Reads.setShared Runs.newRun Runs.insert Runs.keeping Runs.union Runs.remove Drains.removeShared Drains.list Drains.drain Drains.drainAll Drains.clear Drains.cleared Seals.seal Exchange.exchange Compress.compress Compress.compressWith
   closes lent (lenSurject k) n = on-live k _ (λ h. same)
   closes lent (inSameSurject j k) n = on-live j _ (λ h. on-live k _ (λ l. same))
   closes lent (getElement k) n = on-live k _ (λ h. same)
@@ -132,7 +134,9 @@ module _ (st : State) (R : Ready st) where
       let cs = map (classOf (st .elems)) xs in
       either (allDiffer cs) _ _ (λ e. closed-same (view st) (view (withShared st (valued (st .shared) cs values))) refl refl (valued-mark (st .shared) cs values)) (λ e. tt))
   closes lent (compress reset) n =
-      by-test (λ r. outcome st lent r .said .number ≢ 0 → Closes st r) (isShort lent (st .head .elems .capacity) frameWidth) _ _ (λ e m. tt) (λ e m. absurd (m refl)) (n reset refl)
+      by-test (λ r. outcome st lent r .said .number ≢ 0 → Closes st r) (isShort lent (st .head .elems .capacity) frameWidth) _ _ (λ e m. tt) (λ e m. absurd (m refl)) (n (canonical reset))
+  closes lent (compressWith reset) n =
+      by-test (λ r. outcome st lent r .said .number ≢ 0 → Closes st r) (isShort lent (st .head .elems .live) pairWidth) _ _ (λ e m. tt) (λ e m. absurd (m refl)) (n (kept reset))
 
 -- fresh
 pub closes-fresh : (st : State) (elems shared : ℕ) → Closes st (Slots.fresh st elems shared)

@@ -16,7 +16,8 @@ use Rattle.rules.specs.Seals.{sealWidth}
 use Rattle.rules.specs.Exchange
 use Rattle.rules.specs.Exchange.{allDiffer}
 use Rattle.rules.specs.Compress
-use Rattle.rules.specs.Calls.{Call, lenSurject, inSameSurject, getElement, getShared, setElement, setShared, check, newRun, insert, union, remove, removeShared, list, drain, seal, drainAll, clear, exchange, compress, ruling}
+use Rattle.rules.specs.Compress.{pairWidth}
+use Rattle.rules.specs.Calls.{Call, lenSurject, inSameSurject, getElement, getShared, setElement, setShared, check, newRun, insert, union, remove, removeShared, list, drain, seal, drainAll, clear, exchange, compress, compressWith, ruling}
 use Rattle.rules.specs.History.{History}
 use Rattle.rules.proofs.laws.Lists.{all-map, all-image}
 use Rattle.rules.proofs.laws.Tests.{eq-is, is-not}
@@ -36,6 +37,7 @@ use Rattle.rules.proofs.laws.Histories.Cleared.{good-clear, good-drainA
 use Rattle.rules.proofs.laws.Histories.Sets.{good-setElement, good-setShared, good-exchange}
 use Rattle.rules.proofs.laws.Histories.Seal.{good-seal}
 use Rattle.rules.proofs.laws.Histories.Renamed.{good-compress}
+use Rattle.rules.proofs.laws.Histories.Ranked.{good-with}
 
 module _ (st : State) (lent : List ℕ) (h : History) (G : Good st h) where
   union-follows : (j k : Key) → Follows h (union j k) (Runs.union st j k)
@@ -61,7 +63,7 @@ module _ (st : State) (lent : List ℕ) (h : History) (G : Good st h) where
       (λ e. refused))
 
   pub call-follows : (c : Call) → Follows h c (ruling st lent c)
-  unfolding Reads.lenSurject Reads.inSameSurject Reads.getElement Reads.getShared Reads.setElement Reads.setShared Runs.newRun Runs.insert Runs.remove Drains.removeShared Drains.list Drains.drain Drains.drainAll Drains.clear Seals.seal Compress.compress
+  unfolding Reads.lenSurject Reads.inSameSurject Reads.getElement Reads.getShared Reads.setElement Reads.setShared Runs.newRun Runs.insert Runs.remove Drains.removeShared Drains.list Drains.drain Drains.drainAll Drains.clear Seals.seal Compress.compress Compress.compressWith
   call-follows (lenSurject k) = on-live h (lenSurject k) st k _ (λ l. done G)
   call-follows (inSameSurject j k) = on-live h (inSameSurject j k) st j _ (λ i. on-live h (inSameSurject j k) st k _ (λ l. done G))
   call-follows (getElement k) = on-live h (getElement k) st k _ (λ l. done G)
@@ -87,3 +89,4 @@ module _ (st : State) (lent : List ℕ) (h : History) (G : Good st h) where
   call-follows clear = done (good-clear st h G [])
   call-follows (exchange keys values) = exchange-follows keys values
   call-follows (compress reset) = either h (compress reset) (isShort lent (st .head .elems .capacity) frameWidth) _ _ (λ e. refused) (λ e. done (good-compress st h G reset []))
+  call-follows (compressWith reset) = either h (compressWith reset) (isShort lent (st .head .elems .live) pairWidth) _ _ (λ e. refused) (λ e. done (good-with st h G reset []))

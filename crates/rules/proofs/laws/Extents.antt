@@ -23,7 +23,8 @@ use Rattle.rules.specs.Seals.{sealWidth}
 use Rattle.rules.specs.Exchange
 use Rattle.rules.specs.Exchange.{allDiffer}
 use Rattle.rules.specs.Compress
-use Rattle.rules.specs.Calls.{Call, lenSurject, inSameSurject, getElement, getShared, setElement, setShared, check, newRun, insert, union, remove, removeShared, list, drain, seal, drainAll, clear, exchange, compress, ruling, step}
+use Rattle.rules.specs.Compress.{pairWidth}
+use Rattle.rules.specs.Calls.{Call, lenSurject, inSameSurject, getElement, getShared, setElement, setShared, check, newRun, insert, union, remove, removeShared, list, drain, seal, drainAll, clear, exchange, compress, compressWith, ruling, step}
 use Rattle.rules.proofs.laws.Rulings.{by-test, by-key, by-keys}
 
 -- Rules 3: after taking a slot the extent is the higher of what it was and the slot taken
@@ -88,6 +89,7 @@ pub data Anew : Call → Type 0 where
   by-clear : Anew clear
   by-drainAll : Anew drainAll
   by-compress : {reset : Bool} → Anew (compress reset)
+  by-compressWith : {reset : Bool} → Anew (compressWith reset)
 
 abbrev Keeps : State → Ruling → Type 0
 Keeps st (refuse r) = Unit {0}
@@ -130,6 +132,7 @@ module _ (st : State) (lent : List ℕ) where
   keeps (exchange keys values) n =
       by-keys (Keeps st) (λ r. tt) st keys _ (λ xs a. either (allDiffer (map (classOf (st .elems)) xs)) _ _ (record { elems = omega arith; shared = omega arith }) tt)
   keeps (compress reset) n = absurd (n by-compress)
+  keeps (compressWith reset) n = absurd (n by-compressWith)
 
   after : (r : Ruling) → Keeps st r → NotLower st (outcome st lent r .state)
   after (refuse r) k = same st
@@ -152,8 +155,12 @@ module _ (st : State) (lent : List ℕ) where
   drainAll-extents = by-test (Leaves 0 0) (isShort lent (st .head .elems .live) recordWidth) _ _ (λ b e. absurd (omega (arith, e))) (λ b e. (refl, refl))
 
   pub compress-extents : (reset : Bool) → Leaves (st .head .elems .live) (st .head .shared .live) (ruling st lent (compress reset))
-  unfolding Compress.compress Compress.renumbered
+  unfolding Compress.compress Compress.renumberedIn
   compress-extents reset = by-test (Leaves (st .head .elems .live) (st .head .shared .live)) (isShort lent (st .head .elems .capacity) frameWidth) _ _ (λ b e. absurd (omega (arith, e))) (λ b e. (refl, refl))
+
+  pub compressWith-extents : (reset : Bool) → Leaves (st .head .elems .live) (st .head .shared .live) (ruling st lent (compressWith reset))
+  unfolding Compress.compressWith Compress.renumberedIn
+  compressWith-extents reset = by-test (Leaves (st .head .elems .live) (st .head .shared .live)) (isShort lent (st .head .elems .live) pairWidth) _ _ (λ b e. absurd (omega (arith, e))) (λ b e. (refl, refl))
 
 -- and fresh
 pub fresh-extents : (st : State) (elems shared : ℕ) → Leaves st [] 0 0 (Slots.fresh st elems shared)

@@ -24,7 +24,8 @@ use Rattle.rules.specs.Sound.{bothFit}
 use Rattle.rules.specs.Slots
 use Rattle.rules.specs.Slots.{isFull}
 use Rattle.rules.specs.Compress
-use Rattle.rules.specs.Calls.{Call, lenSurject, inSameSurject, getElement, getShared, setElement, setShared, check, newRun, insert, union, remove, removeShared, list, drain, seal, drainAll, clear, exchange, compress, ruling, Ready, step, freshStep}
+use Rattle.rules.specs.Compress.{pairWidth}
+use Rattle.rules.specs.Calls.{Call, lenSurject, inSameSurject, getElement, getShared, setElement, setShared, check, newRun, insert, union, remove, removeShared, list, drain, seal, drainAll, clear, exchange, compress, compressWith, ruling, Ready, step, freshStep}
 use Rattle.rules.proofs.laws.Lists.{all-map, all-image}
 use Rattle.rules.proofs.laws.Working.{view}
 use Rattle.rules.proofs.laws.Safe.{working}
@@ -38,6 +39,7 @@ use Rattle.rules.proofs.laws.RemoveShared.{removeShared-keeps}
 use Rattle.rules.proofs.laws.Empty.{clear-keeps, fresh-keeps}
 use Rattle.rules.proofs.laws.Sealed.{seal-keeps}
 use Rattle.rules.proofs.laws.Compress.{compress-keeps}
+use Rattle.rules.proofs.laws.Histories.Ranked.{with-keeps}
 use Rattle.rules.proofs.laws.Rulings.{live-at, by-test, by-key, by-keys}
 use Rattle.rules.proofs.laws.Tests.{eq-is, is-not}
 use Rattle.rules.proofs.laws.Drained.{drain-keeps, drainAll-keeps}
@@ -55,7 +57,7 @@ module _ (st : State) (R : Ready st) where
   on-live k rule h = by-key Keeps (λ r. tt) st k rule (λ l. h (live-at st k l))
 
   keeps : (lent : List ℕ) (c : Call) → Keeps (ruling st lent c)
-  unfolding Reads.lenSurject Reads.inSameSurject Reads.getElement Reads.getShared Reads.setElement Reads.setShared Runs.newRun Runs.insert Runs.keeping Runs.union Runs.remove Drains.removeShared Drains.list Drains.drain Drains.drainAll Drains.clear Seals.seal Exchange.exchange Compress.compress
+  unfolding Reads.lenSurject Reads.inSameSurject Reads.getElement Reads.getShared Reads.setElement Reads.setShared Runs.newRun Runs.insert Runs.keeping Runs.union Runs.remove Drains.removeShared Drains.list Drains.drain Drains.drainAll Drains.clear Seals.seal Exchange.exchange Compress.compress Compress.compressWith
   keeps lent (lenSurject k) = on-live k _ (λ h. R)
   keeps lent (inSameSurject j k) = on-live j _ (λ h. on-live k _ (λ l. R))
   keeps lent (getElement k) = on-live k _ (λ h. R)
@@ -87,6 +89,7 @@ module _ (st : State) (R : Ready st) where
       let cs = map (classOf (st .elems)) xs in
       either (allDiffer cs) _ _ (λ e. exchange-keeps cs values st R (all-image (classOf (st .elems)) (λ c. view st .count c ≢ 0) xs (all-map (λ x l. working st R .class-live x l) xs a))) (λ e. tt))
   keeps lent (compress reset) = either (isShort lent (st .head .elems .capacity) frameWidth) _ _ (λ e. tt) (λ e. compress-keeps st reset R)
+  keeps lent (compressWith reset) = either (isShort lent (st .head .elems .live) pairWidth) _ _ (λ e. tt) (λ e. with-keeps st reset R)
 
 after : (st : State) (lent : List ℕ) (r : Ruling) → Ready st → Keeps r → Ready (outcome st lent r .state)
 after st lent (refuse r) R k = R

@@ -11,21 +11,21 @@ use Rattle.rules.specs.declared.Refusal.{Refusal}
 use Rattle.rules.specs.declared.Refusal.the-variants as refusal
 use Rattle.rules.specs.Notation.{if_then_else_, flat, keep}
 use Rattle.rules.specs.Tables
-use Rattle.rules.specs.Tables.{frameWidth, State, sizeAt, isSealed}
-use Rattle.rules.specs.Refusals.{Ruling, refuse, Outcome, outcome}
+use Rattle.rules.specs.Tables.{frameWidth, State, elemSide, sharedSide, sizeAt, isSealed}
+use Rattle.rules.specs.Refusals.{Ruling, refuse, accept, Outcome, outcome}
 use Rattle.rules.specs.Slots
-use Rattle.rules.specs.Slots.{raised}
 use Rattle.rules.specs.Drains.{ring, isShort}
 use Rattle.rules.specs.Seals
 use Rattle.rules.specs.Seals.{sealWidth, sealPlace, sealed}
 use Rattle.rules.specs.Compress
-use Rattle.rules.specs.Compress.{canonicalFrames, canonicalClasses}
-use Rattle.rules.specs.Calls.{Call, seal, compress, ruling, step, freshStep, AtDoor}
-use Rattle.rules.specs.History.{History, holds, runOf, othersOf, ordered, renamed, stillIn, sealing, noted, notedFresh}
+use Rattle.rules.specs.Compress.{canonicalFrames, canonicalClasses, renumbered, generationAfter, liveSlots, pairWidth}
+use Rattle.rules.specs.Calls.{Call, seal, ruling, step, freshStep, AtDoor}
+use Rattle.rules.specs.History.{History, holds, runOf, othersOf, byRun, bySlot, stillIn, sealing, noted, notedFresh}
 use Rattle.rules.specs.Demand
 use Rattle.rules.specs.Demand.{headerOf}
+use Rattle.rules.specs.Renaming.{Compresses, canonical, kept}
 use Rattle.rules.specs.Sealing
-use Rattle.rules.specs.Sealing.{keysWritten, Since, begin, fresh, call, compression, Sealed, Sealing}
+use Rattle.rules.specs.Sealing.{keysWritten, newKey, Since, begin, fresh, call, compression, Sealed, Sealing}
 use Rattle.rules.proofs.laws.Lists.{All, In, all-map, all-of, all-at, all-image, in-map, in-image}
 use Rattle.rules.proofs.laws.Columns.{upd-same}
 use Rattle.rules.proofs.laws.Steps.{length-along}
@@ -34,18 +34,21 @@ use Rattle.rules.proofs.laws.Working.{View, view, Working}
 use Rattle.rules.proofs.laws.Safe.{working}
 use Rattle.rules.proofs.laws.Rep.{keyAt, LiveKey, Rep, held}
 use Rattle.rules.proofs.laws.Classes.{Run, one-class, own-run}
-use Rattle.rules.proofs.laws.Compress.{generationAfter, compressed, byPlace, compress-renumbers}
+use Rattle.rules.proofs.laws.Order.{Listed, frames-listed, classes-listed}
+use Rattle.rules.proofs.laws.Compress.{byPlace, own-renumbers}
 use Rattle.rules.proofs.laws.Renumber.{Renaming, Renumbered}
 use Rattle.rules.proofs.laws.Steady.{markAt}
 use Rattle.rules.proofs.laws.Seals.{still-in, still-of}
 use Rattle.rules.proofs.laws.Sealed.{sealV, sealed-view}
 use Rattle.rules.proofs.laws.Closed.{Closed, closed-outcome, closes, closes-fresh}
 use Rattle.rules.proofs.laws.Rulings.{by-test, by-key}
+use Rattle.rules.proofs.laws.SameRuns.{writes-ruled}
 use Rattle.rules.proofs.laws.Good.{Good, live-of, live-to, run-from, size-from}
 use Rattle.rules.proofs.laws.Histories.Cleared.{good-fresh}
 use Rattle.rules.proofs.laws.Histories.Renumber.{rekeyed}
-use Rattle.rules.proofs.laws.Histories.Compress.{run-ring, all-renamed}
-use Rattle.rules.proofs.laws.Histories.Renamed.{mark-carried, named}
+use Rattle.rules.proofs.laws.Histories.Compress.{run-ring}
+use Rattle.rules.proofs.laws.Histories.Renamed.{mark-carried, named, all-live, Told, canonical-told}
+use Rattle.rules.proofs.laws.Histories.Ranked.{frames-by-slot, headers-by-slot, kept-told}
 use Rattle.rules.proofs.laws.DemandThree.{at-door, good-call, after-good, not-accepted}
 
 -- ---- some frames of sealed runs, and all frames of their runs
@@ -99,12 +102,6 @@ whole-renumbered v v′ m N W ks K = record {
         sym (N .class-out (v .class (a .slot)) (W .class-live (a .slot) (la .live))) ∙ ap (m .oldClass) (sym (N .classes (a .slot) (la .live)) ∙ e ∙ N .classes (b .slot) (lb .live))
         ∙ N .class-out (v .class (b .slot)) (W .class-live (b .slot) (lb .live))
 
--- an accepted compression
-compress-ruled : (st : State) (lent : List ℕ) (reset : Bool) (P : State → Type 0) → P (compressed st reset) → step st lent (compress reset) .said .number ≡ 0 → P (step st lent (compress reset) .state)
-unfolding Compress.compress
-compress-ruled st lent reset P p =
-    by-test (λ r. outcome st lent r .said .number ≡ 0 → P (outcome st lent r .state)) (isShort lent (st .head .elems .capacity) frameWidth) _ _ (λ s e. absurd (not-accepted refusal.Short e)) (λ s e. p)
-
 -- ---- over any calls
 record Held (st : State) (h : History) (most : ℕ) (ks : List Key) : Type 0 where
   good : Good st h
@@ -130,39 +127,48 @@ module _ (st : State) (h : History) (n : ℕ) (ks : List Key) (H : Held st h n k
   held-fresh : (elems shared : ℕ) → Held (freshStep st elems shared .state) (notedFresh h (freshStep st elems shared .said)) n (stillIn (notedFresh h (freshStep st elems shared .said) .runs) ks)
   held-fresh elems shared = still _ _ (closed-outcome st [] (Slots.fresh st elems shared) (closes-fresh st elems shared)) (good-fresh st elems shared h (H .good))
 
-  held-call : (lent : List ℕ) (c : Call) (o : Outcome) → AtDoor st lent c o → ((reset : Bool) → c ≡ compress reset → o .said .number ≢ 0) → Held (o .state) (noted h c (o .said)) n (stillIn (noted h c (o .said) .runs) ks)
+  held-call : (lent : List ℕ) (c : Call) (o : Outcome) → AtDoor st lent c o → (Compresses c → o .said .number ≢ 0) → Held (o .state) (noted h c (o .said)) n (stillIn (noted h c (o .said) .runs) ks)
   held-call lent c o d x =
       let q = at-door (H .good) lent c o d in
-      let C = closed-outcome st lent (ruling st lent c) (closes st (H .good .ready) lent c (λ reset e. subst (λ (p : Outcome). p .said .number ≢ 0) q (x reset e))) in
+      let C = closed-outcome st lent (ruling st lent c) (closes st (H .good .ready) lent c (λ r. subst (λ (p : Outcome). p .said .number ≢ 0) q (x r))) in
       still (o .state) (noted h c (o .said)) (subst (λ (p : Outcome). Closed (view st) (view (p .state))) (sym q) C) (good-call (H .good) lent c o d)
 
-  held-compress : (lent : List ℕ) (reset : Bool) (o : Outcome) → AtDoor st lent (compress reset) o → o .said .number ≡ 0
-      → Held (o .state) (noted h (compress reset) (o .said)) n (map (renamed (if reset then 1 else raised (h .generation)) (ordered (h .runs))) ks)
-  held-compress lent reset o d e =
-      let q = at-door (H .good) lent (compress reset) o d in
+  -- a compression by any listing, whose new keys are those that `new` gives
+  module _ (fs cs : List ℕ) (E : Listed (view st .gen) fs) (C : Listed (view st .count) cs) (reset : Bool) (new : Key → Key) (told : Told st h (H .good) fs cs E C reset new) where
+    moved : Whole (view (renumbered st fs cs (generationAfter reset (st .head .generation)))) (map new ks)
+    moved =
+        let W = working st (H .good .ready) in
+        let v = view st in
+        let v′ = view (renumbered st fs cs (generationAfter reset (st .head .generation))) in
+        let m = byPlace fs cs in
+        let N = own-renumbers st W fs cs E C reset in
+        subst (λ (xs : List Key). Whole v′ xs) (all-live (LiveKey v) (rekeyed v v′ m N W) new ks told (H .whole .live)) (whole-renumbered v v′ m N W ks (H .whole))
+
+  renames : (lent : List ℕ) {c : Call} (r : Compresses c) → step st lent c .said .number ≡ 0 → Whole (view (step st lent c .state)) (map (newKey h r) ks)
+  unfolding Compress.compress Compress.compressWith
+  renames lent (canonical reset) e =
+      let W = working st (H .good .ready) in
+      writes-ruled st lent (isShort lent (st .head .elems .capacity) frameWidth) _ _ _ _ (λ s. Whole (view s) (map (byRun h reset) ks))
+      (moved (canonicalFrames st) (canonicalClasses st) (frames-listed st W) (classes-listed st W) reset (byRun h reset) (canonical-told st h (H .good) reset)) e
+  renames lent (kept reset) e =
+      let W = working st (H .good .ready) in
+      writes-ruled st lent (isShort lent (st .head .elems .live) pairWidth) _ _ _ _ (λ s. Whole (view s) (map (bySlot h reset) ks))
+      (moved (liveSlots (elemSide st)) (liveSlots (sharedSide st)) (frames-by-slot st W) (headers-by-slot st W) reset (bySlot h reset) (kept-told st h (H .good) reset)) e
+
+  held-compress : (lent : List ℕ) (c : Call) (r : Compresses c) (o : Outcome) → AtDoor st lent c o → o .said .number ≡ 0 → Held (o .state) (noted h c (o .said)) n (map (newKey h r) ks)
+  held-compress lent c r o d e =
+      let q = at-door (H .good) lent c o d in
       record {
-        good = good-call (H .good) lent (compress reset) o d;
-        whole = subst (λ (p : Outcome). Whole (view (p .state)) named-ks) (sym q) (compress-ruled st lent reset (λ s. Whole (view s) named-ks) moved (subst (λ (p : Outcome). p .said .number ≡ 0) q e));
-        few = omega (arith, length-map ks (renamed (if reset then 1 else raised (h .generation)) (ordered (h .runs))), H .few);
+        good = good-call (H .good) lent c o d;
+        whole = subst (λ (p : Outcome). Whole (view (p .state)) (map (newKey h r) ks)) (sym q) (renames lent r (subst (λ (p : Outcome). p .said .number ≡ 0) q e));
+        few = omega (arith, length-map ks (newKey h r), H .few);
       }
-    where
-      named-ks : List Key
-      named-ks = map (renamed (generationAfter reset (h .generation)) (ordered (h .runs))) ks
-
-      W : Working (view st)
-      W = working st (H .good .ready)
-
-      moved : Whole (view (compressed st reset)) named-ks
-      moved =
-          subst (λ (i : ℕ). Whole (view (compressed st reset)) (map (renamed (generationAfter reset i) (ordered (h .runs))) ks)) (H .good .generation)
-          (subst (λ (xs : List Key). Whole (view (compressed st reset)) xs) (all-renamed st W reset (h .runs) (H .good .rings) ks (H .whole .live))
-          (whole-renumbered (view st) (view (compressed st reset)) (byPlace (canonicalFrames st) (canonicalClasses st)) (compress-renumbers st W reset) W ks (H .whole)))
 
 since : {st st′ : State} {h h′ : History} {ks ks′ : List Key} (n : ℕ) → Held st h n ks → Since st h ks st′ h′ ks′ → Held st′ h′ n ks′
 since n H begin = H
 since n H (fresh {st′ = s} {h′ = g} {ks′ = xs} a elems shared) = held-fresh s g n xs (since n H a) elems shared
 since n H (call {st′ = s} {h′ = g} {ks′ = xs} a lent c o d x) = held-call s g n xs (since n H a) lent c o d x
-since n H (compression {st′ = s} {h′ = g} {ks′ = xs} a lent reset o d e) = held-compress s g n xs (since n H a) lent reset o d e
+since n H (compression {st′ = s} {h′ = g} {ks′ = xs} a lent c r o d e) = held-compress s g n xs (since n H a) lent c r o d e
 
 -- ---- the seal itself
 written-places : (st : State) (xs rest : List ℕ) → keysWritten (length xs) (flat (map (sealPlace st) xs) ++ rest) ≡ map (Tables.keyAt st) xs

@@ -1,28 +1,29 @@
--- Compression leads from good states to good states: the frames have new keys, and none of them is lost (Rules 14); sealed runs stay sealed (Ticket 1).
+-- A compression of either kind leads from good states to good states: the frames have new keys, and none of them is lost (Rules 14, Ticket 3); sealed runs stay sealed (Ticket 1).
 use mathlib.Core.Path.{_≡_, refl, sym, ap, _∙_, subst}
 use mathlib.Core.Logic.{_≢_}
 use mathlib.Core.Bool.{Bool}
-use mathlib.Core.List.{List, map}
+use mathlib.Core.List.{List, [], _∷_, map}
 use Prim.Native.Nat.{ℕ}
 use native.Mathlib.Omega.{arith}
 use lib.ListN.{length, length-map}
 use Rattle.rules.specs.declared.Key.{Key}
 use Rattle.rules.specs.Notation.{flat}
 use Rattle.rules.specs.Tables.{State}
-use Rattle.rules.specs.Compress.{canonicalFrames, canonicalClasses, renumbered}
+use Rattle.rules.specs.Compress.{canonicalFrames, canonicalClasses, renumberedIn, renumbered, generationAfter}
 use Rattle.rules.specs.Calls.{compress}
-use Rattle.rules.specs.History.{History, ordered, renamed, renaming, accepted}
-use Rattle.rules.proofs.laws.Lists.{In, all-map, all-at, all-image, in-map, in-image}
+use Rattle.rules.specs.History.{History, ordered, renamed, renaming, byRun, accepted}
+use Rattle.rules.proofs.laws.Lists.{All, In, all-map, all-at, all-image, all-parts, in-map, in-image}
 use Rattle.rules.proofs.laws.Working.{View, view, Working}
 use Rattle.rules.proofs.laws.Safe.{working}
-use Rattle.rules.proofs.laws.Compress.{generationAfter, compressed, byPlace, compress-renumbers, compress-keeps}
+use Rattle.rules.proofs.laws.Order.{Listed, frames-listed, classes-listed}
+use Rattle.rules.proofs.laws.Compress.{compressed, byPlace, own-renumbers, own-keeps}
 use Rattle.rules.proofs.laws.Renumber.{Renaming, Renumbered}
-use Rattle.rules.proofs.laws.Rep.{keyAt, LiveKey, key-live}
+use Rattle.rules.proofs.laws.Rep.{keyAt, LiveKey, Rep, key-live}
 use Rattle.rules.proofs.laws.Steady.{markAt}
 use Rattle.rules.proofs.laws.Seals.{flag, flag-both, Seals}
 use Rattle.rules.proofs.laws.Good.{Good}
-use Rattle.rules.proofs.laws.Histories.Renumber.{flat-image, rekeyed}
-use Rattle.rules.proofs.laws.Histories.Compress.{all-renamed, rep-compressed}
+use Rattle.rules.proofs.laws.Histories.Renumber.{flat-image, rekeyed, rep-renumbered}
+use Rattle.rules.proofs.laws.Histories.Compress.{renamed-is}
 
 -- ---- any renumbering
 module _ (v v′ : View) (m : Renaming) (N : Renumbered v v′ m) (W : Working v) where
@@ -60,16 +61,42 @@ module _ (v v′ : View) (m : Renaming) (N : Renumbered v v′ m) (W : Working v
           same : flag j ss ≡ flag (new j) (map new ss)
           same = flag-both j (new j) ss (map new ss) (in-map new j ss) back
 
-pub good-compress : (st : State) (h : History) → Good st h → (reset : Bool) (values : List ℕ) → Good (compressed st reset) (accepted h (compress reset) values)
-unfolding renumbered
-good-compress st h G reset values =
+-- ---- two ways to name keys that agree on some of them
+pub all-live : (P : Key → Type 0) (f g : Key → Key) (ks : List Key) → ((k : Key) → P k → f k ≡ g k) → All P ks → map f ks ≡ map g ks
+all-live P f g [] e a = refl
+all-live P f g (k ∷ ks) e a = rw (e k (a .0), all-live P f g ks e (a .1))
+
+map-live : (P : Key → Type 0) (f g : Key → Key) (h : List (List Key)) → ((k : Key) → P k → f k ≡ g k) → All P (flat h) → map (map f) h ≡ map (map g) h
+map-live P f g [] e a = refl
+map-live P f g (r ∷ h) e a = let p = all-parts P r (flat h) a in rw (all-live P f g r e (p .0), map-live P f g h e (p .1))
+
+-- THE STEP, of any compression in its own tables whose new keys are those that `new` gives
+module _ (st : State) (h : History) (G : Good st h) (fs cs : List ℕ) (E : Listed (view st .gen) fs) (C : Listed (view st .count) cs) (reset : Bool) where
+  -- the live keys get the names that `new` gives
+  abbrev pub Told : (Key → Key) → Type 0
+  Told new = (k : Key) → LiveKey (view st) k → rekeyed (view st) (view (renumbered st fs cs (generationAfter reset (st .head .generation)))) (byPlace fs cs) (own-renumbers st (working st (G .ready)) fs cs E C reset) (working st (G .ready)) k ≡ new k
+
+  pub good-renumbered : (new : Key → Key) → Told new → Good (renumbered st fs cs (generationAfter reset (st .head .generation))) (renaming h reset new)
+  unfolding renumberedIn
+  good-renumbered new told =
+      let v = view st in
+      let v′ = view (renumbered st fs cs (generationAfter reset (st .head .generation))) in
+      let W = working st (G .ready) in
+      let m = byPlace fs cs in
+      let N = own-renumbers st W fs cs E C reset in
+      record {
+        ready = own-keeps st (G .ready) fs cs E C reset;
+        rings = subst (λ (q : List (List Key)). Rep v′ q) (map-live (LiveKey v) (rekeyed v v′ m N W) new (h .runs) told (G .rings .live)) (rep-renumbered v v′ m N W (h .runs) (G .rings));
+        generation = ap (generationAfter reset) (G .generation);
+        seals = subst (λ (ss : List Key). Seals v′ ss) (all-live (LiveKey v) (rekeyed v v′ m N W) new (h .sealed) told (G .seals .live)) (seals-renumbered v v′ m N W (h .sealed) (G .seals));
+        counts = omega (arith, ap length (flat-image new (h .runs)), length-map (flat (h .runs)) new, G .counts);
+      }
+
+-- ---- canonical compression
+pub canonical-told : (st : State) (h : History) (G : Good st h) (reset : Bool) → Told st h G (canonicalFrames st) (canonicalClasses st) (frames-listed st (working st (G .ready))) (classes-listed st (working st (G .ready))) reset (byRun h reset)
+canonical-told st h G reset =
     let W = working st (G .ready) in
-    let g = generationAfter reset (st .head .generation) in
-    let now : Good (compressed st reset) (renaming h g) = record {
-      ready = compress-keeps st reset (G .ready);
-      rings = rep-compressed st W reset (h .runs) (G .rings);
-      generation = refl;
-      seals = subst (λ (ss : List Key). Seals (view (compressed st reset)) ss) (all-renamed st W reset (h .runs) (G .rings) (h .sealed) (G .seals .live)) (seals-renumbered (view st) (view (compressed st reset)) (byPlace (canonicalFrames st) (canonicalClasses st)) (compress-renumbers st W reset) W (h .sealed) (G .seals));
-      counts = omega (arith, ap length (flat-image (renamed g (ordered (h .runs))) (h .runs)), length-map (flat (h .runs)) (renamed g (ordered (h .runs))), G .counts);
-    } in
-    subst (λ (i : ℕ). Good (compressed st reset) (renaming h (generationAfter reset i))) (G .generation) now
+    subst (λ (i : ℕ). Told st h G (canonicalFrames st) (canonicalClasses st) (frames-listed st W) (classes-listed st W) reset (renamed (generationAfter reset i) (ordered (h .runs)))) (G .generation) (renamed-is st W reset (h .runs) (G .rings))
+
+pub good-compress : (st : State) (h : History) → Good st h → (reset : Bool) (values : List ℕ) → Good (compressed st reset) (accepted h (compress reset) values)
+good-compress st h G reset values = let W = working st (G .ready) in good-renumbered st h G (canonicalFrames st) (canonicalClasses st) (frames-listed st W) (classes-listed st W) reset (byRun h reset) (canonical-told st h G reset)
