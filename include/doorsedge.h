@@ -10,7 +10,8 @@
 
    Pointers. A length is counted in numbers (uint64_t), not in bytes. Each pointer must be to memory of the size said,
    aligned as a uint64_t is, and what a call may write must not overlap anything else that it is given. NULL is allowed
-   exactly where a length of 0 comes with it: `drain_all` of empty tables takes (NULL, 0) for its records.
+   exactly where a length of 0 comes with it: `drain_all` of empty tables takes (NULL, 0) for its records, `compress_with`
+   for its pairs.
 
    One call at a time may be made on a head and its tables, reads included: nothing here locks, so threads that share
    them need one lock around every call. And what a call answered holds until the next call: a count that was read
@@ -35,9 +36,10 @@
        removal raises it by one, so with a thousand a second that comes after 49 days;
      - drain_all overflowed in its closing clear, which no answer says: the head's generation is then 1;
      - `fresh`, or a compression with `reset`: the generation is 1 again.
-   After `fresh`, `clear`, `drain_all` and a compression forget all keys from before. What to do on overflow: before the
-   next frame is put in, compress, and forget all keys from before. Or, where keys have to stay, forget those of frames
-   that are gone (a read gives 3 for each), and each of the others as soon as its frame goes: they are good until then.
+   After `fresh`, `clear`, `drain_all` and a compression forget all keys from before; `compress_with` tells each frame's new
+   one. What to do on overflow: before the next frame is put in, compress, and forget all keys from before. Or, where keys
+   have to stay, forget those of frames that are gone (a read gives 3 for each), and each of the others as soon as its frame
+   goes: they are good until then.
 
    What a call costs. Anything may stand in the tables, so every call but `fresh` reads both of them whole, up to their
    capacities, before it does its own work; `fresh` writes them whole. That is 4 to 7 ns a slot on the machine of
@@ -94,6 +96,7 @@ enum doorsedge_refusal {
 #define DOORSEDGE_PLACE 2         /* numbers to a place that `list` writes */
 #define DOORSEDGE_SEAL_PLACE 3    /* numbers to a place that `seal` writes */
 #define DOORSEDGE_RECORD 6        /* numbers to a record that `drain` and `drain_all` write */
+#define DOORSEDGE_PAIR 4          /* numbers to a pair of keys that `compress_with` writes */
 #define DOORSEDGE_MOST_SLOTS 65536
 #define DOORSEDGE_STACK 9216      /* bytes of stack that a call takes at most, memset's own not counted */
 #define DOORSEDGE_LAST_GENERATION UINT64_C(4294967295)
@@ -104,6 +107,7 @@ enum doorsedge_refusal {
 #define DOORSEDGE_LIST_LEN(frames) ((size_t)(frames) * DOORSEDGE_PLACE)
 #define DOORSEDGE_SEAL_LEN(frames) ((size_t)(frames) * DOORSEDGE_SEAL_PLACE)
 #define DOORSEDGE_DRAIN_LEN(frames) ((size_t)(frames) * DOORSEDGE_RECORD)
+#define DOORSEDGE_PAIRS_LEN(frames) ((size_t)(frames) * DOORSEDGE_PAIR)
 #define DOORSEDGE_SCRATCH_LEN(capacity) ((size_t)(capacity) * DOORSEDGE_FRAME)
 
 /* The head's numbers. The extent is the highest slot ever used since fresh, clear or compression. */
@@ -155,6 +159,14 @@ enum doorsedge_record {
     DOORSEDGE_RECORD_LAST = 3,
     DOORSEDGE_RECORD_VALUE = 4,
     DOORSEDGE_RECORD_OVERFLOW = 5
+};
+
+/* A pair that `compress_with` writes: the key that the frame had, and the key that it has now. */
+enum doorsedge_pair {
+    DOORSEDGE_PAIR_OLD_SLOT = 0,
+    DOORSEDGE_PAIR_OLD_GENERATION = 1,
+    DOORSEDGE_PAIR_NEW_SLOT = 2,
+    DOORSEDGE_PAIR_NEW_GENERATION = 3
 };
 
 /* ---- State */
@@ -301,6 +313,18 @@ uint64_t doorsedge_clear(uint64_t head[DOORSEDGE_HEAD], uint64_t *elems, size_t 
 uint64_t doorsedge_compress_canonical(uint64_t head[DOORSEDGE_HEAD], uint64_t *elems, size_t elems_len,
                                       uint64_t *shared, size_t shared_len, uint64_t reset, uint64_t *scratch,
                                       size_t scratch_len, uint64_t out[1]);
+
+/* Moves all frames down and keeps their order: the frames, in the order of their slots, to slots 1 and up, and the headers,
+   in the order of theirs, to shared slots 1 and up. Runs stay what they were: rings, payloads, shared values, counts and
+   marks. Every frame gets a new key, as by `compress_canonical`, and both keys of each are written into `pairs`,
+   DOORSEDGE_PAIR numbers a frame, in the order of the slots. Numbers past those written stay as they were. No scratch is
+   needed, and without frames no pairs are: (NULL, 0) will do then.
+   out: how many pairs were written, which is how many frames there are; and 1 if the generation overflowed, else 0 (always 0
+   with `reset`).
+   Refusals: 1, 2, 7 (fewer than DOORSEDGE_PAIRS_LEN(all frames) numbers). */
+uint64_t doorsedge_compress_with(uint64_t head[DOORSEDGE_HEAD], uint64_t *elems, size_t elems_len, uint64_t *shared,
+                                 size_t shared_len, uint64_t reset, uint64_t *pairs, size_t pairs_len,
+                                 uint64_t out[2]);
 
 /* ---- The head lent in place: a writer lends its own struct, which lies as the DOORSEDGE_HEAD numbers do, and calls
    these two as `insert` and `remove_element` are called. The same struct may be handed to the other entries, as its

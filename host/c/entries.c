@@ -13,7 +13,8 @@
 #define UNTOUCHED UINT64_C(77)
 
 static uint64_t head[DOORSEDGE_HEAD], elems[ELEMS], shared[SHARED], out[4], places[DOORSEDGE_LIST_LEN(FRAMES)],
-    sealed[DOORSEDGE_SEAL_LEN(FRAMES)], records[DOORSEDGE_DRAIN_LEN(FRAMES)], scratch[DOORSEDGE_SCRATCH_LEN(FRAMES)];
+    sealed[DOORSEDGE_SEAL_LEN(FRAMES)], records[DOORSEDGE_DRAIN_LEN(FRAMES)], scratch[DOORSEDGE_SCRATCH_LEN(FRAMES)],
+    pairs[DOORSEDGE_PAIRS_LEN(FRAMES)];
 
 /* Head and tables, as every entry takes them. */
 #define STATE head, elems, ELEMS, shared, SHARED
@@ -280,6 +281,50 @@ static void clear_and_compress(void) {
     REFUSED(doorsedge_clear(STATE, out), DOORSEDGE_UNSOUND);
 }
 
+/* Slots 4 and 5 move down to 1 and 2, and headers 2 and 3 to 1 and 2, a mark with its header; each frame's old key is told
+   with its new one. */
+static void compress_in_order(void) {
+    two_runs();
+    IS(doorsedge_seal(STATE, 4, 1, sealed, DOORSEDGE_SEAL_LEN(FRAMES), out), DOORSEDGE_OK);
+    IS(doorsedge_insert_surject(STATE, 30, 300, out), DOORSEDGE_OK);
+    HOLDS(out, 5, 1);
+    IS(doorsedge_remove_shared(STATE, 1, 1, out), DOORSEDGE_OK);
+    fill(pairs, DOORSEDGE_PAIRS_LEN(FRAMES));
+    REFUSED(doorsedge_compress_with(STATE, 0, pairs, DOORSEDGE_PAIRS_LEN(2) - 1, out), DOORSEDGE_SHORT);
+    REFUSED(doorsedge_compress_with(STATE, 0, NULL, 0, out), DOORSEDGE_SHORT);
+    HOLDS(pairs, UNTOUCHED);
+    fill(out, 4);
+    IS(doorsedge_compress_with(STATE, 0, pairs, DOORSEDGE_PAIRS_LEN(FRAMES), out), DOORSEDGE_OK);
+    HOLDS(out, 2, 0, UNTOUCHED);
+    HOLDS(pairs, 4, 1, 1, 3, 5, 1, 2, 3, UNTOUCHED);
+    IS(pairs[DOORSEDGE_PAIR + DOORSEDGE_PAIR_OLD_SLOT], 5);
+    IS(pairs[DOORSEDGE_PAIR + DOORSEDGE_PAIR_OLD_GENERATION], 1);
+    IS(pairs[DOORSEDGE_PAIR + DOORSEDGE_PAIR_NEW_SLOT], 2);
+    IS(pairs[DOORSEDGE_PAIR + DOORSEDGE_PAIR_NEW_GENERATION], 3);
+    HOLDS(elems, 3, 20, 1, 1, 1, 3, 30, 2, 2, 2, 0);
+    RUN(1, 1, 200, 1);
+    RUN(2, 1, 300, 0);
+    RUN(3, 0, 0, 0);
+    HOLDS(head, FRAMES, 2, 0, 2, RUNS, 2, 0, 2, 3);
+    head[DOORSEDGE_GENERATION] = DOORSEDGE_LAST_GENERATION;
+    IS(doorsedge_compress_with(STATE, 0, pairs, DOORSEDGE_PAIRS_LEN(2), out), DOORSEDGE_OK);
+    HOLDS(out, 2, 1, UNTOUCHED);
+    HOLDS(pairs, 1, 3, 1, 1, 2, 3, 2, 1, UNTOUCHED);
+    head[DOORSEDGE_ELEMS_LIVE]++;
+    REFUSED(doorsedge_compress_with(STATE, 0, NULL, 0, out), DOORSEDGE_UNSOUND);
+    REFUSED(doorsedge_compress_with(head, NULL, 0, NULL, 0, 0, NULL, 0, out), DOORSEDGE_SHAPE);
+}
+
+/* Ring 1, 3, 2: along the ring by `compress_canonical`, as the slots stand by `compress_with`. */
+static void both_compressions(void) {
+    two_runs();
+    IS(doorsedge_compress_canonical(STATE, 1, scratch, DOORSEDGE_SCRATCH_LEN(FRAMES), out), DOORSEDGE_OK);
+    HOLDS(elems, 1, 10, 1, 3, 2, 1, 12, 1, 1, 3, 1, 11, 1, 2, 1, 1, 20, 2, 4, 4, 0);
+    two_runs();
+    IS(doorsedge_compress_with(STATE, 1, pairs, DOORSEDGE_PAIRS_LEN(FRAMES), out), DOORSEDGE_OK);
+    HOLDS(elems, 1, 10, 1, 2, 3, 1, 11, 1, 3, 1, 1, 12, 1, 1, 2, 1, 20, 2, 4, 4, 0);
+}
+
 /* One head for both kinds of entry: the writer's own struct, and its numbers for the others. */
 static void in_place(void) {
     struct doorsedge_lent_head own;
@@ -319,6 +364,9 @@ static void null_with_none(void) {
     IS(doorsedge_drain_all(STATE, NULL, 0, out), DOORSEDGE_OK);
     HOLDS(out, 0, UNTOUCHED);
     HOLDS(head, FRAMES, 0, 0, 0, RUNS, 0, 0, 0, 2);
+    IS(doorsedge_compress_with(STATE, 0, NULL, 0, out), DOORSEDGE_OK);
+    HOLDS(out, 0, 0, UNTOUCHED);
+    HOLDS(head, FRAMES, 0, 0, 0, RUNS, 0, 0, 0, 3);
 }
 
 /* When an old key comes alive again: not by a removal, but by an overflow, by `fresh` and by a compression with reset. */
@@ -383,6 +431,8 @@ int main(void) {
     frames_out();
     drains();
     clear_and_compress();
+    compress_in_order();
+    both_compressions();
     in_place();
     null_with_none();
     old_keys();

@@ -1,5 +1,6 @@
-/* A recorder of image runs, as a host writes it in C: frames come in, runs are joined, a bad frame goes, a viewer lists a
-   run, the study is written out and the tables are ready for the next patient. Its tables are its own; nothing is
+/* A recorder of image runs, as a host writes it in C: frames come in, runs are joined, a bad frame goes, the frames move
+   down and the keys that are held follow, a viewer lists a run, the study is written out and the tables are ready for the
+   next patient. Its tables are its own; nothing is
    allocated. Built and run by host/c/run.sh, which compares what it prints with recorder.stdout. */
 #include "doorsedge.h"
 
@@ -83,6 +84,20 @@ static void show_run(const study *s, key k) {
     printf("\n");
 }
 
+/* The frames move down, in the order in which they stand. Every key is new then: those that the recorder holds become the
+   new ones of their frames. */
+static void pack(study *s, key *held[], size_t count) {
+    uint64_t pairs[DOORSEDGE_PAIRS_LEN(FRAMES)], out[2];
+    must("compress", doorsedge_compress_with(s->head, TABLES(s), 0, pairs, DOORSEDGE_PAIRS_LEN(FRAMES), out));
+    for (size_t i = 0; i < count; i++) {
+        const uint64_t *pair = pairs;
+        while (pair[DOORSEDGE_PAIR_OLD_SLOT] != held[i]->slot) /* each is the key of a frame, so it is among them */
+            pair += DOORSEDGE_PAIR;
+        *held[i] = (key){pair[DOORSEDGE_PAIR_NEW_SLOT], pair[DOORSEDGE_PAIR_NEW_GENERATION]};
+    }
+    printf("packed: %" PRIu64 " frames, each with a new key\n", out[0]);
+}
+
 /* The study leaves the tables, run by run; they are empty then, and old keys are dead. */
 static void write_out(study *s) {
     uint64_t records[DOORSEDGE_DRAIN_LEN(FRAMES)], count[1];
@@ -118,6 +133,11 @@ int main(void) {
     drop_frame(&s, right);
     uint64_t picture[1];
     printf("its key then: refused %" PRIu64 "\n", doorsedge_get(s.head, TABLES(&s), right.slot, right.generation, picture));
+
+    /* the free slot goes, and the run is the same under its new keys */
+    pack(&s, (key *[]){&left, &left_last}, 2);
+    printf("the last frame of the left run: key %" PRIu64 " %" PRIu64 "\n", left_last.slot, left_last.generation);
+    show_run(&s, left);
 
     /* there is room for 64 frames, and 59 more come in */
     uint64_t came = 0;

@@ -1,6 +1,6 @@
 //! Keys, refusals and what calls answer.
 
-use crate::{RECORD, SEAL_PLACE};
+use crate::{PAIR, RECORD, SEAL_PLACE};
 use std::{error, fmt};
 
 /// The name of a frame: its slot, and the generation in which it was put there.
@@ -186,4 +186,28 @@ impl Record {
         let [slot, generation, payload, last, value, overflow] = *numbers;
         Record { key: Key::new(slot, generation), payload, last: (last != 0).then_some(value), overflow: overflow != 0 }
     }
+}
+
+/// A frame that a [compression in slot order](crate::Arena::compress_with) moved: the key that it had, and the key that it
+/// has now.
+#[derive(Clone, Copy, PartialEq, Eq, Debug)]
+pub struct Moved {
+    pub old: Key,
+    pub new: Key,
+}
+
+impl Moved {
+    /// A pair of keys from the numbers that a compression in slot order writes.
+    pub fn of(numbers: &[u64; PAIR]) -> Moved {
+        let [slot, generation, new_slot, new_generation] = *numbers;
+        Moved { old: Key::new(slot, generation), new: Key::new(new_slot, new_generation) }
+    }
+}
+
+/// What [compress_with_into](crate::Arena::compress_with_into) answers.
+#[derive(Clone, Copy, PartialEq, Eq, Debug)]
+pub struct Compressed {
+    /// How many pairs of keys were written, which is how many frames there are.
+    pub count: u64,
+    pub overflow: bool,
 }

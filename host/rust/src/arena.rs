@@ -1,9 +1,10 @@
 //! The safe calls.
 
-use crate::answers::{Joined, Key, Record, Refusal, Removed, RemovedShared, SealedFrame, SealedHeader, SealedRun};
+use crate::answers::{Compressed, Joined, Key, Moved, Record, Refusal, Removed, RemovedShared};
+use crate::answers::{SealedFrame, SealedHeader, SealedRun};
 use crate::sys::{self, Head};
 use crate::tables::{Borrowed, Owned, Tables};
-use crate::{PLACE, RECORD, SEAL_PLACE, elems_len, shared_len};
+use crate::{PAIR, PLACE, RECORD, SEAL_PLACE, elems_len, shared_len};
 
 /// Frames in runs. See the [crate's page](crate) for an example.
 #[derive(Clone, PartialEq, Eq, Debug)]
@@ -372,6 +373,42 @@ impl<T: Tables> Arena<T> {
         let mut out = [0];
         change!(self, doorsedge_compress_canonical, reset as u64, scratch.as_mut_ptr(), scratch.len(), &mut out)?;
         Ok(out[0] == 1)
+    }
+
+    /// Moves all frames down to the first slots, in the order of the slots that they had, and the shared values likewise. Every
+    /// key is new then, as by [compress_canonical](Arena::compress_canonical); when all have moved, `map` is told of each frame,
+    /// in that order, the key that it had and the key that it has. Answers whether the generation overflowed.
+    ///
+    /// ```
+    /// # fn main() -> Result<(), doorsedge::Refusal> {
+    /// use doorsedge::{Arena, Key};
+    ///
+    /// let mut arena = Arena::fresh(3, 2)?;
+    /// let bad = arena.insert_surject(10, 100)?;
+    /// let mut shown = [arena.insert(bad, 11)?, arena.insert_surject(20, 200)?];
+    /// arena.remove_element(bad)?;
+    /// arena.compress_with(false, |old, new| {
+    ///     shown.iter_mut().filter(|key| **key == old).for_each(|key| *key = new);
+    /// })?;
+    /// assert_eq!(shown, [Key::new(1, 3), Key::new(2, 3)]);
+    /// assert_eq!((arena.get(shown[0])?, arena.get_shared(shown[1])?), (11, 200));
+    /// # Ok(())
+    /// # }
+    /// ```
+    pub fn compress_with(&mut self, reset: bool, mut map: impl FnMut(Key, Key)) -> Result<bool, Refusal> {
+        self.check()?;
+        let mut pairs = vec![0; self.len() as usize * PAIR];
+        let Compressed { overflow, .. } = self.compress_with_into(reset, &mut pairs)?;
+        pairs.as_chunks().0.iter().map(Moved::of).for_each(|moved| map(moved.old, moved.new));
+        Ok(overflow)
+    }
+
+    /// The same into a lent buffer, [PAIR](crate::PAIR) numbers a frame: slot and generation of the key that it had, and of
+    /// the key that it has. Where it is too short, the call is refused [Short](Refusal::Short) and nothing moves.
+    pub fn compress_with_into(&mut self, reset: bool, pairs: &mut [u64]) -> Result<Compressed, Refusal> {
+        let mut out = [0; 2];
+        change!(self, doorsedge_compress_with, reset as u64, pairs.as_mut_ptr(), pairs.len(), &mut out)?;
+        Ok(Compressed { count: out[0], overflow: out[1] == 1 })
     }
 }
 

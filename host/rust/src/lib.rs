@@ -1,8 +1,8 @@
 //! Runs of frames in lent tables, with a shared value for each run, over the proved archive libhost.a.
 //!
 //! An [Arena] holds frames, each with a payload. Frames stand in rings, called runs, and each run has one shared value.
-//! Runs are begun, grown, joined and taken apart; a [Key] stays valid until its frame is removed. Every call tests the
-//! tables, and what it cannot do it refuses with a [Refusal], changing nothing.
+//! Runs are begun, grown, joined and taken apart; a [Key] stays valid until its frame is removed or the
+//! arena is compressed. Every call tests the tables, and what it cannot do it refuses with a [Refusal], changing nothing.
 //!
 //! ```
 //! use doorsedge::{Arena, Refusal};
@@ -76,7 +76,8 @@ pub mod sys;
 mod tables;
 mod writer;
 
-pub use answers::{Joined, Key, Record, Refusal, Removed, RemovedShared, SealedFrame, SealedHeader, SealedRun};
+pub use answers::{Compressed, Joined, Key, Moved, Record, Refusal, Removed, RemovedShared};
+pub use answers::{SealedFrame, SealedHeader, SealedRun};
 pub use arena::Arena;
 pub use tables::{Borrowed, Owned, Tables};
 pub use writer::Writer;
@@ -91,8 +92,10 @@ pub const PLACE: usize = 2;
 pub const SEAL_PLACE: usize = 3;
 /// Numbers to a drain's record.
 pub const RECORD: usize = 6;
+/// Numbers to a pair of keys that a compression in slot order writes.
+pub const PAIR: usize = 4;
 
-/// How many numbers an element table of this capacity has; also the scratch that compression needs.
+/// How many numbers an element table of this capacity has; also the scratch that canonical compression needs.
 pub const fn elems_len(capacity: usize) -> usize {
     capacity * FRAME
 }

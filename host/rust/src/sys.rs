@@ -279,6 +279,18 @@ unsafe extern "C" {
         out: *mut [u64; 1],
     ) -> u64;
 
+    pub fn doorsedge_compress_with(
+        head: *mut Head,
+        elems: *mut u64,
+        elems_len: usize,
+        shared: *mut u64,
+        shared_len: usize,
+        reset: u64,
+        pairs: *mut u64,
+        pairs_len: usize,
+        out: *mut [u64; 2],
+    ) -> u64;
+
     pub fn doorsedge_insert_in_place(
         head: *mut LentHead,
         elems: *mut u64,

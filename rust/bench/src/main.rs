@@ -1,12 +1,14 @@
 //! `bench`: each call of the archive beside the plain Rust rows arena and the oracle. `bench door`: the soundness check and
-//! what a host call adds to it. `bench clear`: clear by extent. `bench compress`: compression as tables grow. `bench count`: instructions. All times of a line are from the same rounds; ratios are what
-//! to read.
+//! what a host call adds to it. `bench clear`: clear by extent. `bench compress`: compression as tables grow. `bench compress_with`:
+//! compression in slot order as tables grow. `bench count`: instructions. All times of a line are from the same rounds, but for the
+//! oracle's compression in slot order; ratios are what to read.
 
 mod count;
 mod measure;
 mod sides;
 
-use measure::{Batch, checks, compressions, count_and_list, least, single_calls, unions, whole_calls};
+use measure::{Batch, least, least_of};
+use measure::{checks, compressions, count_and_list, ordered_compressions, single_calls, unions, whole_calls};
 use sides::Side::{self, Archive, Door, InPlace, Oracle, Rows};
 use std::time::Duration;
 
@@ -113,6 +115,7 @@ fn door() {
         ("remove_element, once", Call::RemoveElement(key)),
         ("clear, once", Call::Clear),
         ("compress_canonical, once", Call::CompressCanonical { reset: 0 }),
+        ("compress_with, once", Call::CompressWith { reset: 0 }),
     ] {
         let t = times(call);
         println!("{name:<26}{:>12.1}{:>12.1}{:>14.1}{:>12.1}", t[0], t[1], t[0] - check[0], t[1] - check[1]);
@@ -141,23 +144,36 @@ fn clear() {
     }
 }
 
-fn compress() {
+/// A compression as the tables grow. Where the oracle takes the square of what moves, it has rounds of its own, and few.
+fn compress(title: &str, batches: fn(usize) -> Vec<Batch>, is_square: bool) {
     let budget = Duration::from_millis(150);
-    println!("\nCompression, ns a frame; `alone` is the archive's call less its check.");
+    println!("\n{title}, ns a frame; `alone` is the archive's call less its check.");
     print!("{:<26}{:>7}", "", "slots");
     ["archive", "check", "alone", "rows", "oracle"].iter().for_each(|column| print!("{column:>12}"));
     println!("{:>12}{:>12}", "alone/rows", "alone/o");
     for n in [1_024, 8_192, 65_536] {
-        for batch in compressions(n) {
-            let times = least(&batch, &[Archive, Rows, Oracle], budget);
+        for batch in batches(n) {
+            let times = if is_square {
+                [least(&batch, &[Archive, Rows], budget), least_of(2, &batch, &[Oracle], budget)].concat()
+            } else {
+                least(&batch, &[Archive, Rows, Oracle], budget)
+            };
             let check = least(&Batch { calls: vec![model::door::Call::Check], ..batch }, &[Archive], budget)[0];
             let (archive, rows, oracle) = (times[0], times[1], times[2]);
             let alone = archive - check;
             print!("{:<26}{n:>7}", batch.name);
             [archive, check, alone, rows, oracle].iter().for_each(|time| print!("{:>12}", shown(*time)));
-            println!("{:>12.2}{:>12.2}", alone / rows, alone / oracle);
+            println!("{:>12.2}{:>12.4}", alone / rows, alone / oracle);
         }
     }
+}
+
+fn compress_canonical() {
+    compress("Compression", compressions, false);
+}
+
+fn compress_with() {
+    compress("Compression in slot order", ordered_compressions, true);
 }
 
 fn main() {
@@ -178,15 +194,17 @@ fn main() {
             calls();
             door();
             clear();
-            compress();
+            compress_canonical();
+            compress_with();
             count::table();
         }
         Some("door") => door(),
         Some("clear") => clear(),
-        Some("compress") => compress(),
+        Some("compress") => compress_canonical(),
+        Some("compress_with") => compress_with(),
         Some("count") => count::table(),
         Some(_) => {
-            eprintln!("usage: bench [door|clear|compress|count]");
+            eprintln!("usage: bench [door|clear|compress|compress_with|count]");
             std::process::exit(2);
         }
     }

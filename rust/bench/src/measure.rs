@@ -24,11 +24,16 @@ impl Batch {
 
 /// Nanoseconds for each side; none for the archive where it lacks the entry.
 pub fn least(batch: &Batch, sides: &[Side], budget: Duration) -> Vec<f64> {
+    least_of(12, batch, sides, budget)
+}
+
+/// The same with fewer rounds at least, where one takes long.
+pub fn least_of(least: usize, batch: &Batch, sides: &[Side], budget: Duration) -> Vec<f64> {
     let mut best = vec![f64::MAX; sides.len()];
     let mut bed = batch.bed.restored();
     let start = Instant::now();
     let mut rounds = 0;
-    while rounds < 12 || start.elapsed() < budget && rounds < 2_000 {
+    while rounds < least || start.elapsed() < budget && rounds < 2_000 {
         // who comes first changes, since what a side leaves in the caches helps the next
         for at in (0..sides.len()).map(|i| (i + rounds) % sides.len()) {
             let (best, side) = (&mut best[at], sides[at]);
@@ -110,22 +115,41 @@ pub fn whole_calls(n: usize) -> Vec<Batch> {
         batch("drain_all", rings(), Call::DrainAll),
         batch("clear", rings(), Call::Clear),
         batch("compress_canonical", rings(), Call::CompressCanonical { reset: 0 }),
+        batch("compress_with", rings(), Call::CompressWith { reset: 0 }),
     ]
 }
 
 /// Compression of full tables: rings of one, one ring in shuffled order, and the longest follow. Times are for each frame.
 pub fn compressions(n: usize) -> Vec<Batch> {
-    let mut seed = 88_172_645_463_325_252;
-    let pick = |most: usize| {
-        next(&mut seed);
-        seed as usize % most
-    };
     let batch = |name, bed| Batch { name, bed, calls: vec![Call::CompressCanonical { reset: 0 }], per: n };
     vec![
         batch("rings of one", Bed::new(n, n, 1)),
-        batch("one ring, shuffled", Bed::one_ring(n, pick)),
+        batch("one ring, shuffled", shuffled_ring(n)),
         batch("headers one on", Bed::headers_one_on(n)),
     ]
+}
+
+/// Compression in slot order: rings of one of which the first is gone, so that every header moves, which takes the oracle the
+/// square of their number; rings of four of which every other one is gone; and one ring, whose header stays. Times are for
+/// each frame that moves.
+pub fn ordered_compressions(n: usize) -> Vec<Batch> {
+    let batch = |name, bed: Bed| {
+        let per = bed.host.head[3] as usize;
+        Batch { name, bed, calls: vec![Call::CompressWith { reset: 0 }], per }
+    };
+    vec![
+        batch("rings of one, first gone", Bed::with_holes(n, 1, n)),
+        batch("rings of four, half gone", Bed::with_holes(n, 4, 2)),
+        batch("one ring, shuffled", shuffled_ring(n)),
+    ]
+}
+
+fn shuffled_ring(n: usize) -> Bed {
+    let mut seed = 88_172_645_463_325_252;
+    Bed::one_ring(n, |most| {
+        next(&mut seed);
+        seed as usize % most
+    })
 }
 
 fn next(seed: &mut u64) {

@@ -4,7 +4,7 @@ use archive::Host;
 use doorsedge::sys::LentHead;
 use doorsedge::{Key as Frame, Writer};
 use model::door::{self, Call};
-use model::{Head, Key, PLACE, RECORD, Rows, SEAL_PLACE, check};
+use model::{Head, Key, PAIR, PLACE, RECORD, Rows, SEAL_PLACE, check};
 use std::hint::black_box;
 use std::num::{NonZeroU32, NonZeroUsize};
 use triple_arena::traits::*;
@@ -102,6 +102,20 @@ impl Bed {
         })
     }
 
+    /// Runs of `ring` frames each, as [new](Bed::new) has them, full, of which every so many are gone, the first with them.
+    pub fn with_holes(n: usize, ring: usize, every: usize) -> Bed {
+        let mut bed = Bed::new(n, n, ring);
+        let mut head = Head::of(&bed.host.head);
+        let mut rows = Rows { head: &mut head, elems: &mut bed.host.elems, shared: &mut bed.host.shared };
+        for slot in (1..=(n / ring) as u64).step_by(every) {
+            let key = Key { slot, generation: 1 };
+            rows.remove_shared(key).unwrap();
+            bed.oracle.remove_shared(ptr(key)).allow().unwrap();
+        }
+        bed.host.head = head.numbers();
+        bed
+    }
+
     pub fn restored(&self) -> Bed {
         Bed { host: self.host.clone(), oracle: self.oracle.clone(), lent: self.lent.clone() }
     }
@@ -193,6 +207,7 @@ fn step(rows: &mut Rows, call: &Call, lent: &mut [u64]) -> Option<u64> {
         Call::DrainAll => rows.drain_all(lent).ok(),
         Call::Clear => Some(u64::from(rows.clear())),
         Call::CompressCanonical { reset } => rows.compress_canonical(reset != 0, lent).ok().map(u64::from),
+        Call::CompressWith { reset } => rows.compress_with(reset != 0, lent).ok().map(|(count, _)| count),
         // the rows arena has no check: what is counted here is the choice of a call alone
         Call::Check => Some(0),
         Call::Fresh { .. } => None,
@@ -251,6 +266,16 @@ fn ask(a: &mut Oracle, call: &Call, lent: &mut [u64]) -> Option<u64> {
         Call::CompressCanonical { reset } => {
             a.compress_canonical(reset != 0).allow();
             0
+        }
+        Call::CompressWith { reset } => {
+            let mut pairs = lent.chunks_exact_mut(PAIR);
+            let number = |p: P0| [p.inx().get() as u64, p.generation().get() as u64];
+            let tell = |old, _: &mut u64, new| {
+                let ([slot, generation], [new_slot, new_generation]) = (number(old), number(new));
+                pairs.next().unwrap().copy_from_slice(&[slot, generation, new_slot, new_generation]);
+            };
+            a.compress_with(reset != 0, tell).allow();
+            a.len() as u64
         }
         Call::Fresh { .. } | Call::Check => return None,
     })

@@ -31,9 +31,10 @@ pub enum Call {
     Compress(bool),
     /// On the archive alone; the oracle has none, and is read at the same moment.
     Seal(Name),
+    CompressWith(bool),
 }
 
-pub const KINDS: [&str; 20] = [
+pub const KINDS: [&str; 21] = [
     "fresh",
     "check",
     "len_surject",
@@ -54,6 +55,7 @@ pub const KINDS: [&str; 20] = [
     "clear",
     "compress_canonical",
     "seal",
+    "compress_with",
 ];
 
 impl Call {
@@ -80,6 +82,7 @@ impl Call {
             Call::Clear => 17,
             Call::Compress(_) => 18,
             Call::Seal(_) => 19,
+            Call::CompressWith(_) => 20,
         }
     }
 }
@@ -112,7 +115,9 @@ impl fmt::Display for Call {
             }
             Call::InsertSurject(name, payload, value) => write!(f, "{} = {kind} {payload} {value}", Shown(name)),
             Call::Insert(at, name, payload) => write!(f, "{} = {kind} {} {payload}", Shown(name), Shown(at)),
-            Call::Compress(reset) => write!(f, "{kind}{}", if reset { " reset" } else { "" }),
+            Call::Compress(reset) | Call::CompressWith(reset) => {
+                write!(f, "{kind}{}", if reset { " reset" } else { "" })
+            }
         }
     }
 }

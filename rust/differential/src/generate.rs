@@ -39,6 +39,8 @@ pub fn next_calls(live: &[Name], made: usize) -> Vec<Call> {
         Call::Clear,
         Call::Compress(false),
         Call::Compress(true),
+        Call::CompressWith(false),
+        Call::CompressWith(true),
         Call::Fresh,
     ];
     for &k in live {
@@ -94,8 +96,9 @@ struct Mix([usize; KINDS.len()]);
 
 impl Mix {
     fn any(r: &mut Random) -> Mix {
-        // fresh to get_shared; set, set_shared, exchange; new run, insert, union; removals; list, drains, clear, compress; seal
-        let usual = [1, 3, 3, 3, 3, 3, 4, 4, 6, 14, 20, 12, 10, 3, 4, 2, 1, 1, 3, 2];
+        // fresh to get_shared; set, set_shared, exchange; new run, insert, union; removals; list, drains, clear, compress; seal;
+        // compress_with
+        let usual = [1, 3, 3, 3, 3, 3, 4, 4, 6, 14, 20, 12, 10, 3, 4, 2, 1, 1, 3, 2, 3];
         Mix(usual.map(|n| n * r.of(&[0, 1, 1, 1, 2, 6])))
     }
 
@@ -163,7 +166,8 @@ fn any_call(pair: &Pair, kind: usize, serial: usize, r: &mut Random) -> Call {
         16 => Call::DrainAll,
         17 => Call::Clear,
         18 => Call::Compress(r.below(3) == 0),
-        _ => Call::Seal(k),
+        19 => Call::Seal(k),
+        _ => Call::CompressWith(r.below(3) == 0),
     }
 }
 
@@ -311,6 +315,38 @@ fn sealed(n: usize, r: &mut Random) -> Vec<Call> {
     calls
 }
 
+/// Runs that lie through each other, with holes on both sides, some of them sealed, headers in another order than their runs'
+/// lowest frames: compressed in slot order again and again, and now and then in canonical order.
+fn in_order(n: usize, r: &mut Random) -> Vec<Call> {
+    let mut calls = vec![];
+    let (mut live, mut serial): (Vec<Name>, usize) = (vec![], 0);
+    for round in 0..8 {
+        while live.len() < n {
+            let payload = number(2 * serial);
+            if live.is_empty() || r.below(4) == 0 {
+                calls.push(Call::InsertSurject(serial, payload, payload + 1));
+            } else {
+                calls.push(Call::Insert(r.of(&live), serial, payload));
+            }
+            // an insert at a sealed run is refused; its name is then never given
+            live.push(serial);
+            serial += 1;
+        }
+        calls.extend((0..n / 16).map(|_| Call::Union(r.of(&live), r.of(&live))));
+        calls.extend((0..n / 64).map(|_| Call::Seal(r.of(&live))));
+        for _ in 0..n / 3 {
+            calls.push(Call::RemoveElement(live.swap_remove(r.below(live.len()))));
+        }
+        calls.push(Call::RemoveShared(r.of(&live)));
+        calls.extend([Call::CompressWith(round % 4 == 1), Call::List(r.of(&live))]);
+        if round % 3 == 2 {
+            calls.push(Call::Compress(false));
+        }
+    }
+    calls.extend([Call::CompressWith(true), Call::DrainAll, Call::CompressWith(false)]);
+    calls
+}
+
 /// The adversarial cases, with their names.
 pub fn adversarial(seed: u64, largest: usize) -> Vec<(&'static str, Case)> {
     let r = &mut Random::new(seed ^ 0xAD5E);
@@ -326,6 +362,7 @@ pub fn adversarial(seed: u64, largest: usize) -> Vec<(&'static str, Case)> {
         add("churn", churn(size, 12, r));
         add("displaced headers", displaced(size * 3 / 4, r));
         add("sealed runs", sealed(size, r));
+        add("in slot order", in_order(size, r));
         size *= 4;
     }
     cases

@@ -8,6 +8,7 @@
 mod calls;
 mod compare;
 mod generate;
+mod ordered;
 mod pair;
 mod run;
 mod sample;
@@ -28,7 +29,8 @@ struct Args {
     fault: Fault,
 }
 
-const USAGE: &str = "usage: differential [CASES] [SEED] [--length N] [--fault equal|run|map|further|seal|ring]";
+const USAGE: &str =
+    "usage: differential [CASES] [SEED] [--length N] [--fault equal|run|map|further|seal|ring|pairs|headers]";
 
 fn args() -> Option<Args> {
     let mut args = Args { cases: 20_000, seed: 1, length: 5, fault: Fault::None };
@@ -44,6 +46,8 @@ fn args() -> Option<Args> {
                     "further" => Fault::OneFurther,
                     "seal" => Fault::Unsealed,
                     "ring" => Fault::SealedElsewhere,
+                    "pairs" => Fault::PairsCrossed,
+                    "headers" => Fault::HeadersCrossed,
                     _ => return None,
                 }
             }

@@ -35,6 +35,10 @@ pub enum Fault {
     Unsealed,
     /// A seal writes the ring from the next frame on.
     SealedElsewhere,
+    /// The pairs of the last two frames that a compression in slot order moved have each other's new keys.
+    PairsCrossed,
+    /// A compression in slot order leaves the last two headers in each other's slots.
+    HeadersCrossed,
 }
 
 /// What was met.
@@ -118,7 +122,7 @@ impl Pair {
     }
 
     /// The map is one-to-one: a slot of a live frame is not given again.
-    fn learn(&mut self, name: Name, key: Key, ptr: P0, payload: u64) -> Result<(), String> {
+    pub fn learn(&mut self, name: Name, key: Key, ptr: P0, payload: u64) -> Result<(), String> {
         let Some(before) = self.by_key.get(key.slot() as usize).copied() else {
             return Err(format!("the archive gives {key:?}, past its capacity"));
         };
@@ -134,7 +138,7 @@ impl Pair {
         Ok(())
     }
 
-    fn forget(&mut self) {
+    pub fn forget(&mut self) {
         self.by_key.fill(NEVER);
         self.by_ptr.fill(NEVER);
     }
@@ -180,6 +184,7 @@ impl Pair {
             Call::Seal(k) => self.seal(k)?,
             Call::RemoveElement(_) | Call::RemoveShared(_) | Call::Drain(_) => self.take_out(call)?,
             Call::DrainAll | Call::Clear | Call::Compress(_) => self.on_all(call)?,
+            Call::CompressWith(reset) => self.compress_with(reset)?,
             _ => self.read_or_set(call)?,
         };
         let column = match refusal {

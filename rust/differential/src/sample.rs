@@ -22,8 +22,8 @@
 //! | 17 clear | | | |
 //! | 18 compress_canonical | | 1 for a reset, else 0 | |
 //!
-//! A frame's payload is its name whenever tables are compressed, so that keys can be learned again from payloads. Seals
-//! are not in a sample: the oracle has none to answer with, and the program that replays it knows no such record.
+//! A frame's payload is its name whenever tables are compressed, so that keys can be learned again from payloads. Seals and
+//! compressions in slot order are not in a sample: the program that replays it knows no such record.
 
 use crate::calls::{Call, Case, NEVER, Name};
 use crate::generate::{Random, apart};
@@ -174,7 +174,7 @@ fn push(bytes: &mut Vec<u8>, call: &Call, refusal: u64, answers: &[u64]) {
         Call::RemoveElement(k) | Call::RemoveShared(k) | Call::List(k) | Call::Drain(k) => (&[*k], &[]),
         Call::Compress(reset) => (&[], &[*reset as u64]),
         Call::Fresh | Call::Check | Call::DrainAll | Call::Clear => (&[], &[]),
-        Call::Seal(_) => unreachable!("a sample has no seals"),
+        Call::Seal(_) | Call::CompressWith(_) => unreachable!("a sample has no such call"),
     };
     for (byte, name) in record[1..5].iter_mut().zip(names) {
         *byte = u8::try_from(*name).unwrap_or(255);

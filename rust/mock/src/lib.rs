@@ -128,5 +128,6 @@ entry!(doorsedge_drain(slot, generation) lent => Call::Drain(key(slot, generatio
 entry!(doorsedge_drain_all() lent => Call::DrainAll);
 entry!(doorsedge_clear() => Call::Clear);
 entry!(doorsedge_compress_canonical(reset) lent => Call::CompressCanonical { reset });
+entry!(doorsedge_compress_with(reset) lent => Call::CompressWith { reset });
 entry!(doorsedge_insert_in_place(slot, generation, payload) => Call::Insert(key(slot, generation), payload));
 entry!(doorsedge_remove_in_place(slot, generation) => Call::RemoveElement(key(slot, generation)));

@@ -36,10 +36,13 @@ pub enum Call {
     CompressCanonical {
         reset: u64,
     },
+    CompressWith {
+        reset: u64,
+    },
 }
 
 /// How many kinds of calls there are.
-pub const KINDS: usize = 22;
+pub const KINDS: usize = 23;
 
 impl Call {
     /// The entry's name in C, without its prefix; and how many numbers its `out` has.
@@ -67,6 +70,7 @@ impl Call {
             Call::DrainAll => ("drain_all", 1),
             Call::Clear => ("clear", 1),
             Call::CompressCanonical { .. } => ("compress_canonical", 1),
+            Call::CompressWith { .. } => ("compress_with", 2),
         }
     }
 }
@@ -166,5 +170,9 @@ pub fn said(rows: &mut Rows, call: &Call, lent: &mut [u64]) -> Result<[u64; 4], 
         Call::DrainAll => one(rows.drain_all(lent)?),
         Call::Clear => one(rows.clear() as u64),
         Call::CompressCanonical { reset } => one(rows.compress_canonical(reset != 0, lent)? as u64),
+        Call::CompressWith { reset } => {
+            let (count, overflow) = rows.compress_with(reset != 0, lent)?;
+            [count, overflow as u64, 0, 0]
+        }
     })
 }

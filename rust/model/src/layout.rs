@@ -12,6 +12,8 @@ pub const PLACE: usize = 2;
 pub const SEAL_PLACE: usize = 3;
 /// Numbers to a drain's record: slot, generation, payload, last, value, overflow.
 pub const RECORD: usize = 6;
+/// Numbers to a pair of keys that a compression in slot order writes: old slot and generation, new slot and generation.
+pub const PAIR: usize = 4;
 
 pub const GENERATION: usize = 0;
 pub const PAYLOAD: usize = 1;
@@ -90,6 +92,23 @@ impl Head {
     pub fn numbers(&self) -> [u64; HEAD] {
         let (e, s) = (self.elems, self.shared);
         [e.capacity, e.extent, e.root, e.live, s.capacity, s.extent, s.root, s.live, self.generation]
+    }
+
+    /// What a compression gives to all frames: 1 with a reset, which says no overflow, else the next generation.
+    pub fn next_generation(&mut self, reset: bool) -> bool {
+        if reset {
+            self.generation = 1;
+            return false;
+        }
+        self.raise()
+    }
+
+    /// After a compression: the live slots come first, and none below them is free.
+    pub fn pack(&mut self) {
+        for pool in [&mut self.elems, &mut self.shared] {
+            pool.extent = pool.live;
+            pool.root = 0;
+        }
     }
 
     /// After the last generation comes 1. Answers whether it overflowed.

@@ -6,6 +6,7 @@
 //! - [layout]: head, keys, refusals, and how the numbers lie in the tables
 //! - [rows]: the calls on a sound state
 //! - [whole]: the calls on a whole ring or on all of them
+//! - [ordered]: compression in slot order
 //! - [check]: the soundness check, linear
 //! - [sets]: soundness sentence by sentence, by sets, to test the check with
 //! - [door]: the host's calls: shape and soundness first
@@ -13,9 +14,10 @@
 pub mod check;
 pub mod door;
 pub mod layout;
+pub mod ordered;
 pub mod rows;
 pub mod sets;
 pub mod whole;
 
-pub use layout::{FRAME, HEAD, HEADER, Head, Key, PLACE, Pool, RECORD, Refusal, SEAL_PLACE};
+pub use layout::{FRAME, HEAD, HEADER, Head, Key, PAIR, PLACE, Pool, RECORD, Refusal, SEAL_PLACE};
 pub use rows::{Joined, Removed, Rows};

@@ -106,21 +106,13 @@ impl Rows<'_> {
             return Err(Refusal::Short);
         }
         let scratch = &mut scratch[..needed];
-        let overflow = if reset {
-            self.head.generation = 1;
-            false
-        } else {
-            self.head.raise()
-        };
+        let overflow = self.head.next_generation(reset);
         let headers = self.gather(scratch);
         self.elems.copy_from_slice(scratch);
         scratch.fill(0);
         self.shared.fill(0);
         self.shared[..headers.len()].copy_from_slice(&headers);
-        for pool in [&mut self.head.elems, &mut self.head.shared] {
-            pool.extent = pool.live;
-            pool.root = 0;
-        }
+        self.head.pack();
         Ok(overflow)
     }
 

@@ -2,7 +2,7 @@
 
 use model::door::{Call, run};
 use model::layout::MARK;
-use model::{FRAME, HEADER, Key, SEAL_PLACE, check, sets};
+use model::{FRAME, HEADER, Key, PAIR, SEAL_PLACE, check, sets};
 
 #[derive(Clone)]
 struct Host {
@@ -78,13 +78,19 @@ fn p1_to_p10() {
     assert!(host.elems.iter().chain(&host.shared).all(|&n| n == 0));
 }
 
-#[test]
-fn p11_and_p12() {
+/// What P11 has before its compression.
+fn p11() -> Host {
     let mut host = Host::fresh(4, 3);
     assert_eq!(host.call(new_run(10, 100)), (0, vec![1, 1]));
     assert_eq!(host.call(new_run(20, 200)), (0, vec![2, 1]));
     assert_eq!(host.call(Call::RemoveElement(key(1, 1))), (0, vec![10, 1, 100, 0]));
     assert_eq!(host.call(Call::Insert(key(2, 1), 21)), (0, vec![1, 2]));
+    host
+}
+
+#[test]
+fn p11_and_p12() {
+    let mut host = p11();
     assert_eq!(host.lent(Call::CompressCanonical { reset: 0 }, &mut [0; 20]), (0, vec![0]));
     assert_eq!(host.elems[..10], [3, 21, 1, 2, 2, 3, 20, 1, 1, 1]);
     assert_eq!(host.shared, [[2, 200, 0, 0], [0; HEADER], [0; HEADER]].concat());
@@ -161,6 +167,54 @@ fn the_mark() {
     assert_eq!(host.shared[..HEADER], [0; HEADER]);
     assert_eq!(host.call(new_run(30, 300)), (0, vec![2, 5]));
     assert_eq!(host.shared[..HEADER], [1, 300, 0, 0]);
+}
+
+/// Document 02's ticket 3: frames and headers move down in the order of their slots, with the keys from before and after.
+#[test]
+fn compress_with() {
+    let mut host = Host::fresh(5, 4);
+    for call in [new_run(10, 100), new_run(20, 200), Call::Insert(key(2, 1), 21), new_run(30, 300)] {
+        assert_eq!(host.call(call).0, 0);
+    }
+    assert_eq!(host.lent(Call::Seal(key(4, 1)), &mut [0; SEAL_PLACE]).0, 0);
+    for call in [Call::RemoveElement(key(1, 1)), Call::Insert(key(3, 1), 22), Call::RemoveElement(key(2, 1))] {
+        assert_eq!(host.call(call).0, 0);
+    }
+    // ring 3, 1 under 200 in shared slot 2, and 4 under 300 in shared slot 3, sealed; slot 2 and the first header are free
+    let before = host.clone();
+    let mut pairs = [9; 3 * PAIR + 1];
+    assert_eq!(host.lent(Call::CompressWith { reset: 0 }, &mut pairs[..3 * PAIR - 1]), (7, vec![]));
+    assert_eq!((pairs, &host.elems, host.head), ([9; 13], &before.elems, before.head));
+    assert_eq!(host.lent(Call::CompressWith { reset: 0 }, &mut pairs), (0, vec![3, 0]));
+    assert_eq!(pairs, [1, 2, 1, 4, 3, 1, 2, 4, 4, 1, 3, 4, 9]);
+    assert_eq!(host.elems[..15], [4, 22, 1, 2, 2, 4, 21, 1, 1, 1, 4, 30, 2, 3, 3]);
+    assert_eq!(host.shared, [[2, 200, 0, 0], [1, 300, 0, 1], [0; HEADER], [0; HEADER]].concat());
+    assert_eq!((host.head, &host.elems[15..]), ([5, 3, 0, 3, 4, 2, 0, 2, 4], &[0; 10][..]));
+    let mut reset = before;
+    reset.head[8] = 4_294_967_295;
+    let mut over = reset.clone();
+    assert_eq!(reset.lent(Call::CompressWith { reset: 1 }, &mut pairs), (0, vec![3, 0]));
+    assert_eq!(over.lent(Call::CompressWith { reset: 0 }, &mut pairs), (0, vec![3, 1]));
+    assert_eq!((reset.head[8], over.head[8], reset.elems), (1, 1, over.elems));
+    let mut empty = Host::fresh(1, 1);
+    assert_eq!(empty.call(Call::CompressWith { reset: 0 }), (0, vec![0, 0]));
+    assert_eq!(empty.head, [1, 0, 0, 0, 1, 0, 0, 0, 2]);
+}
+
+/// P11's state comes out alike under both compressions, pairs aside. With a run more, whose header stands before, it does not.
+#[test]
+fn p11_under_both_compressions() {
+    for (more, alike) in [(None, true), (Some(new_run(30, 300)), false)] {
+        let mut canonical = p11();
+        if let Some(call) = more {
+            assert_eq!(canonical.call(call), (0, vec![3, 2]));
+        }
+        let mut ordered = canonical.clone();
+        assert_eq!(canonical.lent(Call::CompressCanonical { reset: 0 }, &mut [0; 20]).0, 0);
+        assert_eq!(ordered.lent(Call::CompressWith { reset: 0 }, &mut [0; 3 * PAIR]).0, 0);
+        assert_eq!(canonical.head, ordered.head);
+        assert_eq!((canonical.elems == ordered.elems, canonical.shared == ordered.shared), (alike, alike));
+    }
 }
 
 /// The linear check and the sentences by sets agree: grown states, with one to three numbers changed.

@@ -7,7 +7,8 @@
 //! - `LinkInsertKind::NextToInx` puts the new link immediately after the target (before it, with the feature `before`);
 //! - the slot freed last is taken first, and a removed ring is freed from the given link along next;
 //! - the first generation is 2, as the doc example of `transfer_canonical_reallocating` shows; `clear` raises it by one;
-//! - `compress_canonical` of the links orders rings by their lowest slot.
+//! - `compress_canonical` of the links orders rings by their lowest slot;
+//! - `compress_with` of the links moves them down in the order of their slots, and calls its closure in that order.
 //!
 //! All chains are cyclic: no other kind is made by the three files.
 

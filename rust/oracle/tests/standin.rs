@@ -75,6 +75,31 @@ fn compression_orders_by_lowest_slot() {
     assert_eq!(format!("{:?}", a.find_first_inx_ptr().unwrap()), "P0[1](2)");
 }
 
+/// Of `compress_with` the text shows the shared side: values keep their order. The links' side is the stand-in's.
+#[test]
+fn compress_with_keeps_the_order_of_slots() {
+    let mut a = A::new();
+    let p = [1, 2, 3, 4].map(|t| a.insert_surject(t, 10 * t));
+    let q = a.insert(p[2], 5);
+    a.remove_element(p[1]).allow();
+    // slot 2 goes to the run of slot 4, the shared slot to a run that begins in slot 6
+    a.insert(p[3], 6);
+    a.insert_surject(7, 70);
+    a.remove_element(p[0]).allow();
+    let mut told = vec![];
+    a.compress_with(false, |old, t, new| told.push(format!("{old:?} {t} {new:?}"))).allow();
+    sound(&a);
+    let expected = ["P0[2](3) 6 P0[1](5)", "P0[3](2) 3 P0[2](5)", "P0[4](2) 4 P0[3](5)", "P0[5](2) 5 P0[4](5)"];
+    assert_eq!(told[..4], expected);
+    assert_eq!(told[4..], ["P0[6](3) 7 P0[5](5)"]);
+    assert!(a.get(q).is_none());
+    assert_eq!(a.shared_vals().copied().collect::<Vec<_>>(), [70, 30, 40]);
+    assert_eq!(slots(&a, a.find_first_inx_ptr().unwrap()), [1, 3]);
+    a.compress_with(true, |_, t, _| *t += 100).allow();
+    assert_eq!(a.iter_combined().map(|(_, t, _)| *t).collect::<Vec<_>>(), [106, 103, 104, 105, 107]);
+    assert_eq!(format!("{:?}", a.find_first_inx_ptr().unwrap()), "P0[1](2)");
+}
+
 /// `_check_surjects` never compares class entries along a ring: two rings of two, each with one frame of either class, pass
 /// it. Here they are refused 2.
 #[test]

@@ -74,6 +74,7 @@ pub unsafe fn run_at(lent: Lent, call: &Call) -> u64 {
             Call::DrainAll => doorsedge_drain_all(h, e, en, s, sn, l, ln, o.cast()),
             Call::Clear => doorsedge_clear(h, e, en, s, sn, o.cast()),
             Call::CompressCanonical { reset } => doorsedge_compress_canonical(h, e, en, s, sn, reset, l, ln, o.cast()),
+            Call::CompressWith { reset } => doorsedge_compress_with(h, e, en, s, sn, reset, l, ln, o.cast()),
         }
     }
 }
@@ -172,5 +173,6 @@ pub fn every_call(j: Key, k: Key) -> Vec<Call> {
         Call::DrainAll,
         Call::Clear,
         Call::CompressCanonical { reset: 0 },
+        Call::CompressWith { reset: 0 },
     ]
 }

@@ -3,7 +3,7 @@
 
 use crate::{Host, key};
 use model::door::{Call, KINDS};
-use model::{FRAME, HEADER, Key, PLACE, RECORD, Refusal, SEAL_PLACE};
+use model::{FRAME, HEADER, Key, PAIR, PLACE, RECORD, Refusal, SEAL_PLACE};
 use std::collections::BTreeMap;
 use std::fmt;
 
@@ -187,7 +187,8 @@ fn any_call(host: &Host, r: &mut Random) -> Call {
         19 => Call::InsertInPlace(k, a),
         20 => Call::RemoveInPlace(k),
         21 => Call::Seal(k),
-        n if n < 29 => Call::InsertSurject { payload: a, value: b },
+        22 => Call::CompressWith { reset: r.of(&[0, 0, 1, a]) },
+        n if n < 30 => Call::InsertSurject { payload: a, value: b },
         _ => Call::Insert(k, a),
     }
 }
@@ -200,6 +201,7 @@ fn any_buffer(host: &Host, call: &Call, r: &mut Random) -> Vec<u64> {
         Call::Seal(_) => frames * SEAL_PLACE,
         Call::Drain(_) | Call::DrainAll => frames * RECORD,
         Call::CompressCanonical { .. } => host.elems.len(),
+        Call::CompressWith { .. } => frames * PAIR,
         _ => 0,
     };
     let length = match r.below(6) {

@@ -2,7 +2,7 @@
 
 use archive::{Host, UNTOUCHED, key};
 use model::door::Call;
-use model::{FRAME, HEADER, SEAL_PLACE};
+use model::{FRAME, HEADER, PAIR, SEAL_PLACE};
 
 /// Makes the call (which compares every number with the model's), and answers result and `out`.
 fn said(host: &mut Host, call: Call) -> (u64, Vec<u64>) {
@@ -191,14 +191,20 @@ fn clear() {
     assert_eq!(said(&mut host, Call::Clear), (2, vec![]));
 }
 
-/// P11, and with reset.
-#[test]
-fn compress_canonical() {
+/// What P11 has before its compression: slots 1 and 2 in a ring under 200, the first shared slot free.
+fn p11() -> Host {
     let mut host = Host::fresh(4, 3);
     said(&mut host, new_run(10, 100));
     said(&mut host, new_run(20, 200));
     said(&mut host, Call::RemoveElement(key(1, 1)));
     assert_eq!(said(&mut host, Call::Insert(key(2, 1), 21)), (0, vec![1, 2]));
+    host
+}
+
+/// P11, and with reset.
+#[test]
+fn compress_canonical() {
+    let mut host = p11();
     assert_eq!(host.call(Call::CompressCanonical { reset: 0 }, &[8; 19]).number, 7);
     let compress = host.call(Call::CompressCanonical { reset: 0 }, &[8; 21]);
     assert_eq!((compress.number, compress.out[0]), (0, 0));
@@ -209,5 +215,23 @@ fn compress_canonical() {
     host.head[8] = 4_294_967_295;
     // any number but 0 asks for a reset
     assert_eq!(host.call(Call::CompressCanonical { reset: 1 << 40 }, &[8; 20]).out[0], 0);
+    assert_eq!((host.head[8], host.elems[0]), (1, 1));
+}
+
+/// P11's state, where both compressions leave the same tables; and with reset.
+#[test]
+fn compress_with() {
+    let mut host = p11();
+    assert_eq!(host.call(Call::CompressWith { reset: 0 }, &[8; 2 * PAIR - 1]).number, 7);
+    let compress = host.call(Call::CompressWith { reset: 0 }, &[8; 2 * PAIR + 1]);
+    assert_eq!((compress.number, compress.out), (0, [2, 0, UNTOUCHED, UNTOUCHED]));
+    assert_eq!(compress.lent, [1, 2, 1, 3, 2, 1, 2, 3, 8]);
+    let mut canonical = p11();
+    assert_eq!(canonical.call(Call::CompressCanonical { reset: 0 }, &[8; 4 * FRAME]).number, 0);
+    assert_eq!(host, canonical);
+    host.head[8] = 4_294_967_295;
+    // any number but 0 asks for a reset
+    let compress = host.call(Call::CompressWith { reset: 1 << 40 }, &[8; 2 * PAIR]);
+    assert_eq!((compress.out[..2].to_vec(), compress.lent), (vec![2, 0], vec![1, 3, 1, 1, 2, 3, 2, 1]));
     assert_eq!((host.head[8], host.elems[0]), (1, 1));
 }

@@ -5,7 +5,7 @@ use archive::random::compare;
 use archive::{Host, every_call, key};
 use model::door::Call;
 use model::layout::{COUNT, MARK, NEXT_FREE, VALUE};
-use model::{FRAME, HEADER, PLACE, RECORD, SEAL_PLACE, check};
+use model::{FRAME, HEADER, PAIR, PLACE, RECORD, SEAL_PLACE, check};
 
 fn numbers(host: &Host) -> Vec<u64> {
     every_call(key(1, 1), key(2, 1)).into_iter().map(|call| host.clone().call(call, &[0; 40]).number).collect()
@@ -111,6 +111,7 @@ fn full_tables() {
                 Call::List(_) => PLACE * most as usize,
                 Call::Seal(_) => SEAL_PLACE * most as usize,
                 Call::CompressCanonical { .. } => FRAME * most as usize,
+                Call::CompressWith { .. } => PAIR * most as usize,
                 _ => 0,
             };
             let number = host.clone().call_with(check::sound, call, &vec![3; needed]).number;

@@ -1,9 +1,9 @@
-//! Compression's follow of class entries is a recursion in the source. It must be a loop in the archive: its longest way,
-//! 65,535 steps, has to run in a small stack.
+//! Canonical compression's follow of class entries is a recursion in the source. It must be a loop in the archive: its
+//! longest way, 65,535 steps, has to run in a small stack. So has the compression in slot order, where every row moves.
 
 use archive::run;
-use model::HEADER;
 use model::door::Call;
+use model::{FRAME, HEADER, PAIR};
 
 const FRAMES: u64 = 65_536;
 const SMALL_STACK: usize = 256 * 1024;
@@ -23,15 +23,43 @@ fn compressed(header_of: fn(u64) -> u64) {
     assert!(scratch.iter().all(|&n| n == 0));
 }
 
+/// The first slot of each table free, and rings of one in all others, where frame k's header stands in shared slot
+/// `header_of(k)`: every frame and every header moves down by one.
+fn moved_down(header_of: fn(u64) -> u64) {
+    let live = FRAMES - 1;
+    let mut head = [FRAMES, FRAMES, 1, live, FRAMES, FRAMES, 1, live, 1];
+    let mut elems = vec![0; FRAME];
+    elems.extend((2..=FRAMES).flat_map(|k| [1, 10 * k, header_of(k), k, k]));
+    let header = |c: u64| -> [u64; HEADER] { [1, 1_000_000 + c, 0, c % 2] };
+    let mut shared = vec![0; HEADER];
+    shared.extend((2..=FRAMES).flat_map(header));
+    let mut pairs = vec![9; live as usize * PAIR];
+    let mut out = [0; 4];
+    let said = run(&mut head, &mut elems, &mut shared, &Call::CompressWith { reset: 0 }, &mut pairs, &mut out);
+    assert_eq!((said, out), (0, [live, 0, 0, 0]));
+    assert_eq!(head, [FRAMES, live, 0, live, FRAMES, live, 0, live, 2]);
+    let (last_row, last_header) = ([0; FRAME], [0; HEADER]);
+    assert!((2..=FRAMES).flat_map(|k| [2, 10 * k, header_of(k) - 1, k - 1, k - 1]).chain(last_row).eq(elems));
+    assert!((2..=FRAMES).flat_map(header).chain(last_header).eq(shared));
+    assert!((2..=FRAMES).flat_map(|k| [k, 1, k - 1, 2]).eq(pairs));
+}
+
+fn in_a_small_stack(test: impl FnOnce() + Send + 'static) {
+    std::thread::Builder::new().stack_size(SMALL_STACK).spawn(test).unwrap().join().unwrap();
+}
+
 /// Each header one slot on: the last run's has been displaced by every swap before it.
 #[test]
 fn longest_follow_in_a_small_stack() {
     for header_of in [|k| k % FRAMES + 1, |k| (k + FRAMES - 2) % FRAMES + 1] as [fn(u64) -> u64; 2] {
-        std::thread::Builder::new()
-            .stack_size(SMALL_STACK)
-            .spawn(move || compressed(header_of))
-            .unwrap()
-            .join()
-            .unwrap();
+        in_a_small_stack(move || compressed(header_of));
+    }
+}
+
+/// Headers in the order of the frames, and the other way round.
+#[test]
+fn every_row_moves_in_a_small_stack() {
+    for header_of in [|k| k, |k| FRAMES + 2 - k] as [fn(u64) -> u64; 2] {
+        in_a_small_stack(move || moved_down(header_of));
     }
 }

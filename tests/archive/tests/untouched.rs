@@ -234,5 +234,5 @@ fn accepted_calls_write() {
             }
         }
     }
-    assert_eq!(stores, 12, "twelve entries store the head");
+    assert_eq!(stores, 13, "thirteen entries store the head");
 }
