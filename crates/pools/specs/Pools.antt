@@ -3,11 +3,10 @@ use mathlib.Core.Path.{_≡_}
 use mathlib.Core.Logic.{_≢_}
 use mathlib.Core.Bool.{Bool, true, false}
 use mathlib.Core.List.{List}
-use Prim.Native.Nat.{ℕ, _+_, _*_, _≤_, _<_}
+use Prim.Native.Nat.{ℕ, _+_, _-_, _*_, _≤_, _<_}
 use lib.ListN.{length, getD}
 use Rattle.rules.specs.declared.Pool.{Pool}
 use Rattle.rules.specs.Tables.{mostSlots, cell, countOf, valueOf, nextFreeOf, markOf}
-use Rattle.rules.proofs.laws.Pools.{lives}
 use Rattle.rules.proofs.laws.Chains.{Linked}
 
 -- true with a proof of the one, false with a refutation of the other
@@ -24,18 +23,18 @@ pub record Roomy (p : Pool) (width : ℕ) (t : List ℕ) : Type 0 where
   pub most : p .capacity ≤ mostSlots
   pub long : length t ≡ p .capacity * width
 
--- Sound 2, 5 and 6 of one table
+-- Sound 2, 5 and 6 of one table, with Ticket 4: the chain is as long as the extent leaves after the live slots
 pub record PoolOk (p : Pool) (width link : ℕ) (t : List ℕ) : Type 0 where
   pub extent : p .extent ≤ p .capacity
+  pub live : p .live ≤ p .extent
   pub zeros : Zeros t (p .extent * width)
-  pub chain : Linked (cell width t 0) (cell width t link) (p .extent) (p .extent) (p .root)
+  pub chain : Linked (cell width t 0) (cell width t link) (p .extent) (p .extent - p .live) (p .root)
 
--- Sound 6 and Ticket 1 of a shared slot; and of all, with Sound 3
+-- Sound 6 and Ticket 1 of a shared slot; and of all
 pub record HeaderOk (s : List ℕ) (c : ℕ) : Type 0 where
   pub free : countOf s c ≡ 0 → valueOf s c ≡ 0
   pub live : countOf s c ≢ 0 → nextFreeOf s c ≡ 0
   pub mark : (markOf s c ≤ 1) × (markOf s c ≤ countOf s c)
 
-pub record Headers (s : List ℕ) (m live : ℕ) : Type 0 where
-  pub slots : (c : ℕ) → c < m → HeaderOk s (c + 1)
-  pub number : lives (countOf s) m ≡ live
+abbrev pub Headers : List ℕ → ℕ → Type 0
+Headers s m = (c : ℕ) → c < m → HeaderOk s (c + 1)

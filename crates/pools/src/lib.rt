@@ -31,15 +31,15 @@ fn zeros(t: &[u64], from: u64) -> bool
     true
 }
 
-// Whether the free chain from a root is one, of at most as many slots as the extent.
-fn chain_ok(t: &[u64], width: u64, link: u64, extent: u64, root: u64) -> bool
+// Whether the free chain from a root is one, of so many slots.
+fn chain_ok(t: &[u64], width: u64, link: u64, extent: u64, root: u64, free: u64) -> bool
     requires { ⌜ (extent * width ≤ length (now t)) × (link < width) ⌝ }
-    ensures { λ r. ⌜ Is (Linked (cell width (now (t .entry)) 0) (cell width (now (t .entry)) link) extent extent root) r ⌝ }
+    ensures { λ r. ⌜ Is (Linked (cell width (now (t .entry)) 0) (cell width (now (t .entry)) link) extent free root) r ⌝ }
 {
     let mut x = root;
-    let mut left = extent;
-    while x != 0 {
-        if left == 0 {
+    let mut left = free;
+    while left != 0 {
+        if x == 0 {
             return false;
         }
         if extent < x {
@@ -51,10 +51,13 @@ fn chain_ok(t: &[u64], width: u64, link: u64, extent: u64, root: u64) -> bool
         x = slots::get(t, width, link, x);
         left -= 1;
     }
+    if x != 0 {
+        return false;
+    }
     true
 }
 
-// Sound 2, 5 and 6 of one table: its extent, its free chain, and zeros past the extent.
+// Sound 2, 5 and 6 of one table: its extent, its free chain, and zeros past the extent. A chain that is as long as the extent leaves after the live slots holds every free one (Ticket 4).
 pub fn pool_ok(p: Pool, t: &[u64], width: u64, link: u64) -> bool
     requires { ⌜ Roomy p width (now t) × (width ≤ 64) × (link < width) ⌝ }
     ensures { λ r. ⌜ Is (PoolOk p width link (now (t .entry))) r ⌝ }
@@ -62,21 +65,23 @@ pub fn pool_ok(p: Pool, t: &[u64], width: u64, link: u64) -> bool
     if p.capacity < p.extent {
         return false;
     }
+    if p.extent < p.live {
+        return false;
+    }
     if !zeros(t, p.extent * width) {
         return false;
     }
-    if !chain_ok(t, width, link, p.extent, p.root) {
+    if !chain_ok(t, width, link, p.extent, p.root, p.extent - p.live) {
         return false;
     }
     true
 }
 
-// Sound 3 and 6 of the shared slots, and Ticket 1 of their marks.
-pub fn headers_ok(s: &[u64], extent: u64, live: u64) -> bool
+// Sound 6 of the shared slots, and Ticket 1 of their marks.
+pub fn headers_ok(s: &[u64], extent: u64) -> bool
     requires { ⌜ extent * headerWidth ≤ length (now s) ⌝ }
-    ensures { λ r. ⌜ Is (Headers (now (s .entry)) extent live) r ⌝ }
+    ensures { λ r. ⌜ Is (Headers (now (s .entry)) extent) r ⌝ }
 {
-    let mut got: u64 = 0;
     let mut i: u64 = 0;
     while i < extent {
         let c = i + 1;
@@ -99,10 +104,6 @@ pub fn headers_ok(s: &[u64], extent: u64, live: u64) -> bool
         if slots::get(s, HEADER, NEXT_FREE, c) != 0 {
             return false;
         }
-        got += 1;
-    }
-    if got != live {
-        return false;
     }
     true
 }

@@ -152,9 +152,9 @@ not-sealed = ((λ h. h .0), go)
 pub full : Sentence (room 2 3) [] (want [] false false false true 0) NoElement × Sentence (room 3 2) [] (want [] false false true false 0) NoShared
 full = ((tt, (refl, refl)), (tt, (refl, refl)))
 
--- by root and extent, even where a free slot is on no chain
-pub off-chain : Sentence (at (pool 2 2 0 1) (pool 2 2 0 1) 1 [] []) [] (want [] false false true true 0) NoElement
-off-chain = (tt, (refl, refl))
+-- by root and extent, and not by the live number
+pub by-extent : Sentence (at (pool 2 2 0 1) (pool 2 2 0 1) 1 [] []) [] (want [] false false true true 0) NoElement
+by-extent = (tt, (refl, refl))
 
 pub not-full : (Sentence (room 3 2) [] (want [] false false true true 0) NoElement → ⊥) × (Sentence (room 2 3) [] (want [] false false true true 0) NoShared → ⊥)
 not-full = ((λ h. omega (arith, h .1 .1)), (λ h. omega (arith, h .1 .1)))

@@ -52,6 +52,7 @@ pub mod Blocks
 pub mod Sets
 pub mod Empty
 pub mod Extents
+pub mod Vacant
 pub mod Drained
 pub mod Sealed
 pub mod Kept

@@ -1,5 +1,5 @@
 -- Numbers given on refusal, once more and apart from the rules: the sentence of each number over any call. The rules give it exactly then (proofs/Exactly).
-use Prim.Native.Nat.{ℕ, _*_, _<_}
+use Prim.Native.Nat.{ℕ, _*_, _≤_, _<_}
 use mathlib.Core.Path.{_≡_}
 use mathlib.Core.Logic.{_⊎_}
 use mathlib.Core.Bool.{Bool, true, false}
@@ -10,7 +10,7 @@ use Rattle.rules.specs.declared.Pool.{Pool}
 use Rattle.rules.specs.declared.Key.{Key}
 use Rattle.rules.specs.declared.Refusal.{Refusal}
 use Rattle.rules.specs.declared.Refusal.the-variants.{Shape, Unsound, Dead, SameClass, NoElement, NoShared, Short, Malformed, Sealed}
-use Rattle.rules.specs.Tables.{frameWidth, classOf, State, LiveKey, sizeAt, isSealed}
+use Rattle.rules.specs.Tables.{frameWidth, classOf, State, Side, isFree, LiveKey, sizeAt, isSealed}
 use Rattle.rules.specs.Sound.{Sound}
 use Rattle.rules.specs.Refusals.{shaped}
 use Rattle.rules.specs.Drains.{keyWidth, recordWidth}
@@ -89,6 +89,10 @@ asks st (compressWith reset) = writing [] (st .head .elems .live * pairWidth)
 abbrev pub Full : Pool → Type 0
 Full p = (p .root ≡ 0) × (p .extent ≡ p .capacity)
 
+-- Ticket 4: no slot up to the capacity is free; a slot past the extent is free
+abbrev pub NoneFree : Side → Type 0
+NoneFree t = (s : ℕ) → T (isFree t s) ⊎ ((t .pool .extent < s) × (s ≤ t .pool .capacity)) → ⊥
+
 -- 4: two keys in one class
 abbrev pub OneClass : State → (j k : Key) → Type 0
 OneClass st j k = classOf (st .elems) (j .slot) ≡ classOf (st .elems) (k .slot)
@@ -117,9 +121,12 @@ earlier NoElement = Shape ∷ Unsound ∷ Dead ∷ SameClass ∷ Sealed ∷ NoSh
 earlier Short = Shape ∷ Unsound ∷ Dead ∷ SameClass ∷ Sealed ∷ NoShared ∷ NoElement ∷ []
 earlier Malformed = []
 
--- its sentence holds, and that of no earlier number
+-- a number's turn comes, if the sentence of no earlier number holds; and it is given, if its own then does
+abbrev pub Turn : State → (lent : List ℕ) → Call → Refusal → Type 0
+Turn st lent c r = None (Sentence st lent (asks st c)) (earlier r)
+
 abbrev pub Given : State → (lent : List ℕ) → Call → Refusal → Type 0
-Given st lent c r = Sentence st lent (asks st c) r × None (Sentence st lent (asks st c)) (earlier r)
+Given st lent c r = Sentence st lent (asks st c) r × Turn st lent c r
 
 -- and a call is accepted, if no sentence holds
 abbrev pub Accepted : State → (lent : List ℕ) → Call → Type 0

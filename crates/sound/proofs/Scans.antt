@@ -10,7 +10,6 @@ use lib.ListN.{length, length-append}
 use Rattle.marks.specs.Marks.{marked, Added}
 use Rattle.rules.specs.Tables.{generationOf, classOf, nextOf, countOf, State}
 use Rattle.rules.proofs.laws.Lists.{All, In, Out, NoDup, all-at, all-of, in-parts, in-left, in-right, nodup-append}
-use Rattle.rules.proofs.laws.Pools.{lives-free, lives-live}
 use Rattle.rules.proofs.laws.Count.{lives-le, fewer}
 use Rattle.rules.proofs.laws.Rounds.{Within, Fit, Round, went, went-once}
 use Rattle.turns.specs.Turns.{FreeOk}
@@ -85,7 +84,7 @@ module _ (st : State) where
       let f = all-at (Fit (st .elems) (st .head .elems .extent) (t .0 .class)) x (frames (t .0)) (all-at (RunOk st) (t .0) rs g (t .1) .fits) (t .2) in
       (f .live, f .inside .low, f .inside .high))
 
-  pub begun : (seen : List ℕ) → ((c : ℕ) → marked seen c ≡ false) → Scan st 0 0 0 0 seen
+  pub begun : (seen : List ℕ) → ((c : ℕ) → marked seen c ≡ false) → Scan st 0 0 0 seen
   begun seen blank = record {
     runs = [];
     good = tt;
@@ -94,13 +93,12 @@ module _ (st : State) where
     noted = λ c h. absurd h;
     passed = λ x lo hi l. absurd (omega arith);
     free = λ x lo hi l. absurd (omega arith);
-    number = refl;
     total = refl;
     count = refl;
     few = omega arith;
   }
 
-  module _ (i live met rings : ℕ) (seen : List ℕ) (z : Scan st i live met rings seen) where
+  module _ (i met rings : ℕ) (seen : List ℕ) (z : Scan st i met rings seen) where
     pub once-met : NoDup (slots (z .runs))
     once-met = slots-once (z .runs) (z .good) (z .fresh)
 
@@ -116,10 +114,7 @@ module _ (st : State) where
     pub bounded : met ≤ st .head .elems .extent
     bounded = omega (arith, fewer (slots (z .runs)) (generationOf (st .elems)) (st .head .elems .extent) once-met live-met, lives-le (generationOf (st .elems)) (st .head .elems .extent), z .total)
 
-    pub live-few : live ≤ i
-    live-few = omega (arith, lives-le (generationOf (st .elems)) i, z .number)
-
-    pub skip-free : generationOf (st .elems) (i + 1) ≡ 0 → FreeOk (st .elems) (i + 1) → Scan st (i + 1) live met rings seen
+    pub skip-free : generationOf (st .elems) (i + 1) ≡ 0 → FreeOk (st .elems) (i + 1) → Scan st (i + 1) met rings seen
     skip-free h f = record {
       runs = z .runs;
       good = z .good;
@@ -128,7 +123,6 @@ module _ (st : State) where
       noted = z .noted;
       passed = λ x lo hi l. passed x lo hi l (ℕ-discrete x (i + 1));
       free = λ x lo hi l. free x lo hi l (ℕ-discrete x (i + 1));
-      number = lives-free (generationOf (st .elems)) i h ∙ z .number;
       total = z .total;
       count = z .count;
       few = omega (arith, z .few);
@@ -150,7 +144,7 @@ module _ (st : State) where
       free-next x lo hi l (yes q) = absurd (h (sym (ap (generationOf (st .elems)) q) ∙ l))
       free-next x lo hi l (no q) = z .free x lo (omega arith) l
 
-      pub skip-seen : marked seen (c - 1) ≡ true → Scan st (i + 1) (live + 1) met rings seen
+      pub skip-seen : marked seen (c - 1) ≡ true → Scan st (i + 1) met rings seen
       skip-seen k = record {
         runs = z .runs;
         good = z .good;
@@ -159,7 +153,6 @@ module _ (st : State) where
         noted = z .noted;
         passed = λ x lo hi l. passed x lo hi l (ℕ-discrete x (i + 1));
         free = λ x lo hi l. free-next x lo hi l (ℕ-discrete x (i + 1));
-        number = lives-live (generationOf (st .elems)) i h ∙ ap (λ (v : ℕ). v + 1) (z .number);
         total = z .total;
         count = z .count;
         few = omega (arith, z .few);
@@ -172,7 +165,7 @@ module _ (st : State) where
           passed x lo hi l (yes q) = subst (λ (v : ℕ). In v (classes (z .runs))) (sym (ap (classOf (st .elems)) q ∙ mine)) here
           passed x lo hi l (no q) = z .passed x lo (omega arith) l
 
-      pub take-ring : (k : ℕ) (seen′ : List ℕ) → c ≤ st .head .shared .extent → marked seen (c - 1) ≡ false → k ≡ countOf (st .shared) c → Round (st .elems) (st .head .elems .extent) c (i + 1) k (i + 1) → Added seen (c - 1) seen′ → Scan st (i + 1) (live + 1) (met + k) (rings + 1) seen′
+      pub take-ring : (k : ℕ) (seen′ : List ℕ) → c ≤ st .head .shared .extent → marked seen (c - 1) ≡ false → k ≡ countOf (st .shared) c → Round (st .elems) (st .head .elems .extent) c (i + 1) k (i + 1) → Added seen (c - 1) seen′ → Scan st (i + 1) (met + k) (rings + 1) seen′
       take-ring k seen′ within off size r add =
           let t = ran st c (i + 1) k (record { low = pos; high = within }) size r in
           let head : t .run .class ≡ c = t .class in
@@ -184,7 +177,6 @@ module _ (st : State) where
             noted = λ d o. on d (subst (λ (v : ℕ). In (suc d) (v ∷ classes (z .runs))) head o) (ℕ-discrete d (c - 1));
             passed = λ x lo hi l. passed t x lo hi l (ℕ-discrete x (i + 1));
             free = λ x lo hi l. free-next x lo hi l (ℕ-discrete x (i + 1));
-            number = lives-live (generationOf (st .elems)) i h ∙ ap (λ (v : ℕ). v + 1) (z .number);
             total = omega (arith, length-append (frames (t .run)) (slots (z .runs)), z .total, t .ok .sized, ap (countOf (st .shared)) head, size);
             count = omega (arith, z .count);
             few = omega (arith, z .few);
@@ -206,6 +198,5 @@ module _ (st : State) where
           passed t x lo hi l (yes q) = inl (ap (classOf (st .elems)) q ∙ mine ∙ sym (t .class))
           passed t x lo hi l (no q) = inr (z .passed x lo (omega arith) l)
 
-pub numbered : {st : State} {i live met rings live′ rings′ : ℕ} {seen : List ℕ} → live ≡ live′ → met ≡ live′ → rings ≡ rings′ → Scan st i live met rings seen → Scan st i live′ live′ rings′ seen
-numbered {st} {i} {live} {met} {rings} {live′} {rings′} {seen} a b c z =
-    subst (λ (v : ℕ). Scan st i live′ live′ v seen) c (subst (λ (v : ℕ). Scan st i live′ v rings seen) b (subst (λ (v : ℕ). Scan st i v met rings seen) a z))
+pub numbered : {st : State} {i met rings live headers : ℕ} {seen : List ℕ} → met ≡ live → rings ≡ headers → Scan st i met rings seen → Scan st i live headers seen
+numbered {st} {i} {met} {rings} {live} {headers} {seen} a b z = subst (λ (v : ℕ). Scan st i live v seen) b (subst (λ (v : ℕ). Scan st i v rings seen) a z)

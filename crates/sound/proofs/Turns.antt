@@ -19,7 +19,7 @@ use Rattle.sound.specs.declared.Turn.the-variants.{Free, Seen, First, Wr
 use Rattle.turns.specs.Turns.{FreeOk}
 use Rattle.sound.specs.Scans.{Fitting, FrameAt, FirstAt, Turned, Scan, Scanned}
 use Rattle.sound.proofs.Scans.{skip-free, skip-seen, take-ring, numbered}
-use Rattle.sound.proofs.Whole.{must-free, must-class, must-live, must-met, must-rings}
+use Rattle.sound.proofs.Whole.{must-free, must-class, must-met, must-rings}
 
 pub work : (st : State) → shaped st ≡ true → Sound st → Working (view st)
 work st h S = working-of-sound st (shaped-of st h) S
@@ -45,40 +45,37 @@ module _ (st : State) (h : shaped st ≡ true) (x : ℕ) where
 
 -- ---- what the scan has then
 
-module _ (st : State) (i live met rings : ℕ) (seen after : List ℕ) (r : Turn) (z : Scan st i live met rings seen) (t : Turned st seen (i + 1) r after) where
-  pub turn-free : r ≡ Free → Scan st (i + 1) live met rings after
+module _ (st : State) (i met rings : ℕ) (seen after : List ℕ) (r : Turn) (z : Scan st i met rings seen) (t : Turned st seen (i + 1) r after) where
+  pub turn-free : r ≡ Free → Scan st (i + 1) met rings after
   turn-free e =
       let f : Turned st seen (i + 1) Free after = subst (λ (r : Turn). Turned st seen (i + 1) r after) e t in
-      subst (Scan st (i + 1) live met rings) (sym (f .2)) (skip-free st i live met rings seen z (f .0) (f .1))
+      subst (Scan st (i + 1) met rings) (sym (f .2)) (skip-free st i met rings seen z (f .0) (f .1))
 
-  pub turn-seen : r ≡ Seen → Scan st (i + 1) (live + 1) met rings after
+  pub turn-seen : r ≡ Seen → Scan st (i + 1) met rings after
   turn-seen e =
       let f : Turned st seen (i + 1) Seen after = subst (λ (r : Turn). Turned st seen (i + 1) r after) e t in
-      subst (Scan st (i + 1) (live + 1) met rings) (sym (f .2)) (skip-seen st i live met rings seen z (classOf (st .elems) (i + 1)) (f .0 .live) refl (f .0 .class .low) (f .1))
+      subst (Scan st (i + 1) met rings) (sym (f .2)) (skip-seen st i met rings seen z (classOf (st .elems) (i + 1)) (f .0 .live) refl (f .0 .class .low) (f .1))
 
-  pub turn-first : (k : ℕ) → r ≡ First k → Scan st (i + 1) (live + 1) (met + k) (rings + 1) after
+  pub turn-first : (k : ℕ) → r ≡ First k → Scan st (i + 1) (met + k) (rings + 1) after
   turn-first k e =
       let f : FirstAt st seen (i + 1) k after = subst (λ (r : Turn). Turned st seen (i + 1) r after) e t in
-      take-ring st i live met rings seen z (classOf (st .elems) (i + 1)) (f .frame .live) refl (f .frame .class .low) k after (f .frame .class .high) (f .unseen) (f .count) (f .round) (f .added)
+      take-ring st i met rings seen z (classOf (st .elems) (i + 1)) (f .frame .live) refl (f .frame .class .low) k after (f .frame .class .high) (f .unseen) (f .count) (f .round) (f .added)
 
   pub turn-wrong : r ≡ Wrong → Sound st → ⊥
   turn-wrong e = subst (λ (r : Turn). Turned st seen (i + 1) r after) e t
 
 -- ---- the scan is through
 
-module _ (st : State) (i live met rings : ℕ) (seen : List ℕ) (z : Scan st i live met rings seen) (end : i ≡ st .head .elems .extent) where
-  all-passed : Scan st (st .head .elems .extent) live met rings seen
-  all-passed = subst (λ (k : ℕ). Scan st k live met rings seen) end z
+module _ (st : State) (i met rings : ℕ) (seen : List ℕ) (z : Scan st i met rings seen) (end : i ≡ st .head .elems .extent) where
+  all-passed : Scan st (st .head .elems .extent) met rings seen
+  all-passed = subst (λ (k : ℕ). Scan st k met rings seen) end z
 
   module _ (h : shaped st ≡ true) where
-    pub wrong-live : live ≢ st .head .elems .live → Sound st → ⊥
-    wrong-live n S = n (must-live st (work st h S) live met rings seen all-passed)
-
     pub wrong-met : met ≢ st .head .elems .live → Sound st → ⊥
-    wrong-met n S = n (must-met st (work st h S) live met rings seen all-passed)
+    wrong-met n S = n (must-met st (work st h S) met rings seen all-passed)
 
     pub wrong-rings : rings ≢ st .head .shared .live → Sound st → ⊥
-    wrong-rings n S = n (must-rings st (work st h S) live met rings seen all-passed)
+    wrong-rings n S = n (must-rings st (work st h S) met rings seen all-passed)
 
-  pub scanned : live ≡ st .head .elems .live → met ≡ st .head .elems .live → rings ≡ st .head .shared .live → Scanned st
-  scanned a b c = record { seen = seen; scan = numbered a b c all-passed }
+  pub scanned : met ≡ st .head .elems .live → rings ≡ st .head .shared .live → Scanned st
+  scanned a b = record { seen = seen; scan = numbered a b all-passed }

@@ -9,10 +9,10 @@ use lib.ListN.{length}
 use Rattle.rules.specs.Tables.{lastGeneration, frameWidth, headerWidth, frameAt, headerAt, cell, generationOf, payloadOf, classOf, previousOf, nextOf, countOf, valueOf, nextFreeOf, markOf, State}
 use Rattle.rules.proofs.laws.Columns.{cell-none}
 use Rattle.rules.proofs.laws.Lists.{All, In, Walk, all-map, all-at}
-use Rattle.rules.proofs.laws.Pools.{Pooled, live-in}
-use Rattle.rules.proofs.laws.Count.{full, exact}
+use Rattle.rules.proofs.laws.Pools.{Pooled, lives, live-in}
+use Rattle.rules.proofs.laws.Count.{full, exact, lives-le}
 use Rattle.rules.proofs.laws.Working.{view, Working, Frame, Ring, turn}
-use Rattle.rules.proofs.laws.Chains.{chain-of, linked-of}
+use Rattle.rules.proofs.laws.Chains.{linked-of, counted, pooled-linked}
 use Rattle.rules.proofs.laws.Rounds.{Within, Fit, pred-in, walk-last}
 use Rattle.pools.specs.Pools.{PoolOk, HeaderOk, Headers}
 use Rattle.turns.specs.Turns.{FreeOk}
@@ -48,7 +48,7 @@ pub record Found (st : State) : Type 0 where
   pub most : st .head .generation ≤ lastGeneration
   pub elems : PoolOk (st .head .elems) frameWidth (frameAt .next) (st .elems)
   pub shared : PoolOk (st .head .shared) headerWidth (headerAt .nextFree) (st .shared)
-  pub headers : Headers (st .shared) (st .head .shared .extent) (st .head .shared .live)
+  pub headers : Headers (st .shared) (st .head .shared .extent)
   pub scanned : Scanned st
 
 module _ (st : State) (F : Found st) where
@@ -57,6 +57,17 @@ module _ (st : State) (F : Found st) where
 
   past-s : Empty headerWidth (st .shared) (st .head .shared .extent)
   past-s = empty-of headerWidth (st .shared) (st .head .shared .extent) (F .shared .zeros)
+
+  -- Sound 3: what was met, and what the chains leave
+  frames-counted : lives (generationOf (st .elems)) (st .head .elems .extent) ≡ st .head .elems .live
+  frames-counted =
+      let z = F .scanned .scan in
+      counted (st .head .elems) (generationOf (st .elems)) (nextOf (st .elems)) (F .elems .live) (F .elems .chain) (slots (z .runs)) (once-met st _ _ _ (F .scanned .seen) z) (live-met st _ _ _ (F .scanned .seen) z) (z .total)
+
+  headers-counted : lives (countOf (st .shared)) (st .head .shared .extent) ≡ st .head .shared .live
+  headers-counted =
+      let z = F .scanned .scan in
+      counted (st .head .shared) (countOf (st .shared)) (nextFreeOf (st .shared)) (F .shared .live) (F .shared .chain) (classes (z .runs)) (z .fresh) (live-classes st _ _ _ (F .scanned .seen) z) (z .count)
 
   -- a frame stands in a run that was walked
   record Stands (x : ℕ) : Type 0 where
@@ -70,7 +81,7 @@ module _ (st : State) (F : Found st) where
   stands x l =
       let i = within frameWidth (st .elems) (st .head .elems .extent) (omega arith) past-e x l in
       let z = F .scanned .scan in
-      let m = full (slots (z .runs)) (generationOf (st .elems)) (st .head .elems .extent) (once-met st _ _ _ _ (F .scanned .seen) z) (live-met st _ _ _ _ (F .scanned .seen) z) (z .total ∙ sym (z .number)) x l (i .low) (i .high) in
+      let m = full (slots (z .runs)) (generationOf (st .elems)) (st .head .elems .extent) (once-met st _ _ _ (F .scanned .seen) z) (live-met st _ _ _ (F .scanned .seen) z) (z .total ∙ sym frames-counted) x l (i .low) (i .high) in
       let t = run-at x (z .runs) m in
       let ok = all-at (RunOk st) (t .0) (z .runs) (z .good) (t .1) in
       record { run = t .0; there = t .1; member = t .2; ok = ok; fit = all-at (Fit (st .elems) (st .head .elems .extent) (t .0 .class)) x (frames (t .0)) (ok .fits) (t .2) }
@@ -119,7 +130,7 @@ module _ (st : State) (F : Found st) where
   class-run c l =
       let i = within headerWidth (st .shared) (st .head .shared .extent) (omega arith) past-s c l in
       let z = F .scanned .scan in
-      let m = full (classes (z .runs)) (countOf (st .shared)) (st .head .shared .extent) (z .fresh) (live-classes st _ _ _ _ (F .scanned .seen) z) (z .count ∙ sym (F .headers .number)) c l (i .low) (i .high) in
+      let m = full (classes (z .runs)) (countOf (st .shared)) (st .head .shared .extent) (z .fresh) (live-classes st _ _ _ (F .scanned .seen) z) (z .count ∙ sym headers-counted) c l (i .low) (i .high) in
       let t = of-class c (z .runs) m in
       go (t .0) (t .1) (t .2)
     where
@@ -141,26 +152,16 @@ module _ (st : State) (F : Found st) where
           whole r k q x f t = subst (λ (u : Run). In x (frames u)) (same-run (t .run) r (F .scanned .scan .runs) (F .scanned .scan .fresh) (t .there) k (sym (t .fit .mine) ∙ f .mine ∙ sym q)) (t .member)
 
   header-ok : (c : ℕ) → Within (st .head .shared .extent) c → HeaderOk (st .shared) c
-  header-ok c i = let q : (c - 1) + 1 ≡ c = omega (arith, i .low) in subst (HeaderOk (st .shared)) q (F .headers .slots (c - 1) (omega (arith, i .low, i .high)))
+  header-ok c i = let q : (c - 1) + 1 ≡ c = omega (arith, i .low) in subst (HeaderOk (st .shared)) q (F .headers (c - 1) (omega (arith, i .low, i .high)))
 
   pub working-found : Working (view st)
   working-found = record {
     least = F .least;
     most = F .most;
-    elems = record {
-      fits = F .elems .extent;
-      number = F .scanned .scan .number;
-      chain = chain-of (generationOf (st .elems)) (nextOf (st .elems)) (st .head .elems .extent) (st .head .elems .root) (F .elems .chain);
-      none = cell-none frameWidth (st .elems) 0;
-      past = λ x l. (past-e (frameAt .generation) x (omega arith) l, past-e (frameAt .next) x (omega arith) l);
-    };
-    shared = record {
-      fits = F .shared .extent;
-      number = F .headers .number;
-      chain = chain-of (countOf (st .shared)) (nextFreeOf (st .shared)) (st .head .shared .extent) (st .head .shared .root) (F .shared .chain);
-      none = cell-none headerWidth (st .shared) 0;
-      past = λ x l. (past-s (headerAt .count) x (omega arith) l, past-s (headerAt .nextFree) x (omega arith) l);
-    };
+    elems = pooled-linked (st .head .elems) (generationOf (st .elems)) (nextOf (st .elems)) (F .elems .live) (F .elems .chain) (F .elems .extent) frames-counted
+        (cell-none frameWidth (st .elems) 0) (λ x l. (past-e (frameAt .generation) x (omega arith) l, past-e (frameAt .next) x (omega arith) l));
+    shared = pooled-linked (st .head .shared) (countOf (st .shared)) (nextFreeOf (st .shared)) (F .shared .live) (F .shared .chain) (F .shared .extent) headers-counted
+        (cell-none headerWidth (st .shared) 0) (λ x l. (past-s (headerAt .count) x (omega arith) l, past-s (headerAt .nextFree) x (omega arith) l));
     gens = λ x. gens x (ℕ-discrete (generationOf (st .elems) x) 0);
     zeros = λ x l. zeros x l (zone (st .head .elems .extent) x);
     value-zero = λ c l. value-zero c l (zone (st .head .shared .extent) c);
@@ -200,14 +201,15 @@ module _ (st : State) (F : Found st) where
 
 -- ---- of a sound state, each part
 module _ (st : State) (S : Working (view st)) where
-  pub must-headers : Headers (st .shared) (st .head .shared .extent) (st .head .shared .live)
-  must-headers = record { slots = λ c l. record { free = λ z. S .value-zero (c + 1) z; live = λ u. S .chain-zero (c + 1) u; mark = S .marks (c + 1) }; number = S .shared .number }
+  pub must-headers : Headers (st .shared) (st .head .shared .extent)
+  must-headers c l = record { free = λ z. S .value-zero (c + 1) z; live = λ u. S .chain-zero (c + 1) u; mark = S .marks (c + 1) }
 
   pub must-shared : PoolOk (st .head .shared) headerWidth (headerAt .nextFree) (st .shared)
   must-shared = record {
     extent = S .shared .fits;
+    live = omega (arith, S .shared .number, lives-le (countOf (st .shared)) (st .head .shared .extent));
     zeros = zeros-of headerWidth (st .shared) (st .head .shared .extent) (omega arith) (λ f x l b. at f x l b);
-    chain = linked-of (countOf (st .shared)) (nextFreeOf (st .shared)) (st .head .shared .extent) (st .head .shared .root) (S .shared .chain);
+    chain = linked-of (S .shared);
   }
     where
       at : Empty headerWidth (st .shared) (st .head .shared .extent)
@@ -220,8 +222,9 @@ module _ (st : State) (S : Working (view st)) where
   pub must-elems : PoolOk (st .head .elems) frameWidth (frameAt .next) (st .elems)
   must-elems = record {
     extent = S .elems .fits;
+    live = omega (arith, S .elems .number, lives-le (generationOf (st .elems)) (st .head .elems .extent));
     zeros = zeros-of frameWidth (st .elems) (st .head .elems .extent) (omega arith) (λ f x l b. at f x l b);
-    chain = linked-of (generationOf (st .elems)) (nextOf (st .elems)) (st .head .elems .extent) (st .head .elems .root) (S .elems .chain);
+    chain = linked-of (S .elems);
   }
     where
       at : Empty frameWidth (st .elems) (st .head .elems .extent)
@@ -239,10 +242,7 @@ module _ (st : State) (S : Working (view st)) where
   must-class x l = let o = live-in (S .shared) (classOf (st .elems) x) (S .class-live x l) in record { low = o .0; high = o .1 }
 
   -- the scan is through
-  module _ (live met rings : ℕ) (seen : List ℕ) (z : Scan st (st .head .elems .extent) live met rings seen) where
-    pub must-live : live ≡ st .head .elems .live
-    must-live = sym (z .number) ∙ S .elems .number
-
+  module _ (met rings : ℕ) (seen : List ℕ) (z : Scan st (st .head .elems .extent) met rings seen) where
     -- two walks of one length from one place are one
     same-walk : (n : ℕ → ℕ) (a b d : ℕ) (xs ys : List ℕ) → Walk n a b xs → Walk n a d ys → length xs ≡ length ys → xs ≡ ys
     same-walk n a b d [] [] v w q = refl
@@ -265,10 +265,10 @@ module _ (st : State) (S : Working (view st)) where
         at-run x r (z .runs) (t .1) (subst (λ (ys : List ℕ). In x (r .start ∷ ys)) (sym q) (g .whole x (record { live = l; mine = refl })))
 
     pub must-met : met ≡ st .head .elems .live
-    must-met = sym (z .total) ∙ sym (exact (slots (z .runs)) (generationOf (st .elems)) (st .head .elems .extent) (once-met st _ _ _ _ seen z) (live-met st _ _ _ _ seen z) met-all) ∙ S .elems .number
+    must-met = sym (z .total) ∙ sym (exact (slots (z .runs)) (generationOf (st .elems)) (st .head .elems .extent) (once-met st _ _ _ seen z) (live-met st _ _ _ seen z) met-all) ∙ S .elems .number
 
     pub must-rings : rings ≡ st .head .shared .live
-    must-rings = sym (z .count) ∙ sym (exact (classes (z .runs)) (countOf (st .shared)) (st .head .shared .extent) (z .fresh) (live-classes st _ _ _ _ seen z) seen-all) ∙ S .shared .number
+    must-rings = sym (z .count) ∙ sym (exact (classes (z .runs)) (countOf (st .shared)) (st .head .shared .extent) (z .fresh) (live-classes st _ _ _ seen z) seen-all) ∙ S .shared .number
       where
         seen-all : (c : ℕ) → countOf (st .shared) c ≢ 0 → In c (classes (z .runs))
         seen-all c l =

@@ -10,7 +10,6 @@ use Rattle.rules.specs.Tables.{mostSlots, frameWidth, headerWidth, generationOf
 use Rattle.rules.specs.Sound.{Sound}
 use Rattle.rules.specs.Refusals.{shaped}
 use Rattle.rules.proofs.laws.Lists.{All, In, NoDup, Walk}
-use Rattle.rules.proofs.laws.Pools.{lives}
 use Rattle.rules.proofs.laws.Rounds.{Within, Fit, Round}
 use Rattle.turns.specs.Turns.{FreeOk}
 use Rattle.sound.specs.declared.Turn.{Turn}
@@ -67,8 +66,8 @@ pub record RunOk (st : State) (r : Run) : Type 0 where
   pub once : NoDup (frames r)
   pub fits : All (Fit (st .elems) (st .head .elems .extent) (r .class)) (frames r)
 
--- The slots up to `i` were passed: `live` of them hold frames, `met` frames stand in the `rings` rings that were walked.
-pub record Scan (st : State) (i live met rings : ℕ) (seen : List ℕ) : Type 0 where
+-- The slots up to `i` were passed: `met` frames stand in the `rings` rings that were walked.
+pub record Scan (st : State) (i met rings : ℕ) (seen : List ℕ) : Type 0 where
   pub runs : List Run
   pub good : All (RunOk st) runs
   pub fresh : NoDup (classes runs)
@@ -76,7 +75,6 @@ pub record Scan (st : State) (i live met rings : ℕ) (seen : List ℕ) : Type 0
   pub noted : (c : ℕ) → In (suc c) (classes runs) → marked seen c ≡ true
   pub passed : (x : ℕ) → 0 < x → x ≤ i → generationOf (st .elems) x ≢ 0 → In (classOf (st .elems) x) (classes runs)
   pub free : (x : ℕ) → 0 < x → x ≤ i → generationOf (st .elems) x ≡ 0 → FreeOk (st .elems) x
-  pub number : lives (generationOf (st .elems)) i ≡ live
   pub total : length (slots runs) ≡ met
   pub count : length (classes runs) ≡ rings
   pub few : rings ≤ i
@@ -84,7 +82,7 @@ pub record Scan (st : State) (i live met rings : ℕ) (seen : List ℕ) : Type 0
 -- all slots were passed, and the numbers are the head's
 pub record Scanned (st : State) : Type 0 where
   pub seen : List ℕ
-  pub scan : Scan st (st .head .elems .extent) (st .head .elems .live) (st .head .elems .live) (st .head .shared .live) seen
+  pub scan : Scan st (st .head .elems .extent) (st .head .elems .live) (st .head .shared .live) seen
 
 -- marks for all classes, none of them set
 pub record Blank (m : ℕ) (seen : List ℕ) : Type 0 where

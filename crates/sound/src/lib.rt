@@ -64,14 +64,13 @@ fn look(head: Head, e: &[u64], s: &[u64], seen: &mut [u64], x: u64) -> Turn
     Turn::First(count)
 }
 
-// Sound 3, 4 and 6 to 11 of the element slots: each is free as it must be, or stands in a ring, one to a live class.
+// Sound 3, 4 and 6 to 11 of the element slots: each is free as it must be, or stands in a ring, one to a live class. Live slots are not counted: the frames met are as many as the head says, and the free chain leaves room for no more.
 fn scan(head: Head, e: &[u64], s: &[u64], seen: &mut [u64]) -> bool
     requires { ⌜ Fitting (stateOf head (now e) (now s)) × Blank (head .shared .extent) (now seen) ⌝ }
     ensures { λ r. ⌜ Verdict (Scanned (stateOf head (now (e .entry)) (now (s .entry)))) (sound.Sound (stateOf head (now (e .entry)) (now (s .entry)))) r ⌝ }
 {
     let p = head.elems;
     let q = head.shared;
-    let mut live: u64 = 0;
     let mut met: u64 = 0;
     let mut rings: u64 = 0;
     let mut i: u64 = 0;
@@ -86,18 +85,13 @@ fn scan(head: Head, e: &[u64], s: &[u64], seen: &mut [u64]) -> bool
                 continue;
             }
             Turn::Seen => {
-                live += 1;
                 continue;
             }
             Turn::First(count) => {
-                live += 1;
                 met += count;
                 rings += 1;
             }
         }
-    }
-    if live != p.live {
-        return false;
     }
     if met != p.live {
         return false;
@@ -156,7 +150,7 @@ pub fn is_sound(head: Head, elems: &[u64], shared: &[u64]) -> bool
     if !pool_ok(p, elems, FRAME, NEXT) {
         return false;
     }
-    if !headers_ok(shared, q.extent, q.live) {
+    if !headers_ok(shared, q.extent) {
         return false;
     }
     rings_ok(head, elems, shared)

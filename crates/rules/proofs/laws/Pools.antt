@@ -1,7 +1,7 @@
 -- One table's slots: which are live, the free chain, the extent; taking and freeing a slot. For both tables alike:
 -- `g` is the column that is 0 where a slot is free, `n` the column that holds the next free slot.
 use mathlib.Core.Path.{_≡_, refl, sym, ap, _∙_}
-use mathlib.Core.Logic.{_≢_}
+use mathlib.Core.Logic.{_≢_, _⊎_, inl, inr}
 use mathlib.Core.List.{List, [], _∷_}
 use mathlib.Core.Bool.{Bool, true, false}
 use Prim.Native.Nat.{ℕ, zero, suc, _+_, _-_, _≤_, _<_}
@@ -14,7 +14,7 @@ use Rattle.rules.specs.Notation.{if_then_else_, _==_}
 use Rattle.rules.specs.Tables.{Side, fieldOf}
 use Rattle.rules.specs.Slots.{slotOf, taken, freed}
 use Rattle.rules.proofs.laws.Columns.{upd, upd-same, upd-other}
-use Rattle.rules.proofs.laws.Lists.{All, Out, NoDup, Walk, all-map, all-at, all-of, out-by, walk-frame}
+use Rattle.rules.proofs.laws.Lists.{All, In, Out, NoDup, Walk, all-map, all-at, all-of, out-by, walk-frame}
 
 -- 1 at a live slot, 0 at a free one
 abbrev pub sign : ℕ → ℕ
@@ -42,6 +42,7 @@ pub record Pooled (p : Pool) (g n : ℕ → ℕ) : Type 0 where
   pub fits : p .extent ≤ p .capacity
   pub number : lives g (p .extent) ≡ p .live
   pub chain : Chain g n (p .root) (p .extent)
+  pub whole : (s : ℕ) → Free g (p .extent) s → In s (chain .slots)
   pub none : g 0 ≡ 0
   pub past : (s : ℕ) → p .extent < s → (g s ≡ 0) × (n s ≡ 0)
 
@@ -110,15 +111,34 @@ pub record Popped (g n : ℕ → ℕ) (r extent : ℕ) : Type 0 where
   pub here : Free g extent r
   pub rest : Chain g n (n r) extent
   pub apart : Out r (rest .slots)
+  pub whole : (s : ℕ) → Free g extent s → s ≢ r → In s (rest .slots)
 
-pop : {g n : ℕ → ℕ} {r extent : ℕ} → r ≢ 0 → Chain g n r extent → Popped g n r extent
+pop : {g n : ℕ → ℕ} {r extent : ℕ} → r ≢ 0 → (c : Chain g n r extent) → ((s : ℕ) → Free g extent s → In s (c .slots)) → Popped g n r extent
 pop {g} {n} {r} {extent} h c = go (c .slots) (c .walk) (c .once) (c .free)
   where
-    go : (xs : List ℕ) → Walk n r 0 xs → NoDup xs → All (Free g extent) xs → Popped g n r extent
-    go [] w o f = absurd (h w)
-    go (x ∷ xs) w o f =
+    others : (s x : ℕ) (xs : List ℕ) → r ≡ x → s ≢ r → In s (x ∷ xs) → In s xs
+    others s x xs e d (inl q) = absurd (d (q ∙ sym e))
+    others s x xs e d (inr m) = m
+
+    go : (xs : List ℕ) → Walk n r 0 xs → NoDup xs → All (Free g extent) xs → ((s : ℕ) → Free g extent s → In s xs) → Popped g n r extent
+    go [] w o f a = absurd (h w)
+    go (x ∷ xs) w o f a =
         let e : r ≡ x = w .0 in
-        record { here = rw e (f .0); rest = record { slots = xs; walk = rw e (w .1); once = o .1; free = f .1 }; apart = rw e (o .0) }
+        record { here = rw e (f .0); rest = record { slots = xs; walk = rw e (w .1); once = o .1; free = f .1 }; apart = rw e (o .0); whole = λ s p d. others s x xs e d (a s p) }
+
+-- a chain from 0 is empty
+chain-none : {g n : ℕ → ℕ} {r extent : ℕ} → r ≡ 0 → (c : Chain g n r extent) → (s : ℕ) → In s (c .slots) → ⊥
+chain-none {g} {n} {r} {extent} e c s = go (c .slots) (c .walk) (c .free)
+  where
+    go : (xs : List ℕ) → Walk n r 0 xs → All (Free g extent) xs → In s xs → ⊥
+    go (x ∷ xs) w f m = omega (arith, e, w .0, f .0 .low)
+
+-- what is free after one slot has changed: the slot itself, or what was free before
+free-else : (g : ℕ → ℕ) (a v : ℕ) {extent s : ℕ} → Free (upd g a v) extent s → s ≢ a → Free g extent s
+free-else g a v {extent} {s} f d = record { low = f .low; within = f .within; free = sym (upd-other g a v s d) ∙ f .free }
+
+free-not : (g : ℕ → ℕ) (a v : ℕ) {extent s : ℕ} → v ≢ 0 → Free (upd g a v) extent s → s ≢ a
+free-not g a v {extent} {s} h f e = h (sym (upd-same g a v) ∙ ap (upd g a v) (sym e) ∙ f .free)
 
 -- a chain, where the columns change at no slot of it
 chain-frame : {g n g′ n′ : ℕ → ℕ} {r extent : ℕ} (c : Chain g n r extent)
@@ -153,14 +173,19 @@ module _ {p : Pool} {g n : ℕ → ℕ} where
       fits = omega (arith, room e);
       number = omega (arith, lives-more g (p .extent + 1) v (p .extent + 1) (omega arith) (omega arith) (P .past (p .extent + 1) (omega arith) .0) h, lives-free g (p .extent) (P .past (p .extent + 1) (omega arith) .0), P .number);
       chain = record { slots = []; walk = refl; once = tt; free = tt };
+      whole = λ s f.
+          let d = free-not g (p .extent + 1) v h f in
+          let b = free-else g (p .extent + 1) v f d in
+          chain-none e (P .chain) s (P .whole s (record { low = b .low; within = omega (arith, b .within, d); free = b .free }));
       none = upd-other g (p .extent + 1) v 0 (omega arith) ∙ P .none;
       past = λ s l. let o = P .past s (omega arith) in (upd-other g (p .extent + 1) v s (omega arith) ∙ o .0, k s (o .0) (omega arith) ∙ o .1);
     };
   }
 
   popped : Pooled p g n → p .root ≢ 0 → Taken p g n (p .root) (record { capacity = p .capacity; extent = p .extent; root = n (p .root); live = p .live + 1 })
+  unfolding chain-frame
   popped P e =
-      let c = pop e (P .chain) in
+      let c = pop e (P .chain) (P .whole) in
       let r = p .root in
       let xs = c .rest .slots in
       record {
@@ -175,6 +200,7 @@ module _ {p : Pool} {g n : ℕ → ℕ} where
               let d : s ≢ r = λ q. all-at (λ y. r ≢ y) s xs (c .apart) j (sym q) in
               let f = all-at (Free g (p .extent)) s xs (c .rest .free) j in
               (upd-other g r v s d, k s (f .free) d)));
+          whole = λ s f. let d = free-not g r v h f in c .whole s (free-else g r v f d) d;
           none = upd-other g r v 0 (omega arith) ∙ P .none;
           past = λ s l. let o = P .past s l in let d : s ≢ r = omega (arith, c .here .within) in (upd-other g r v s d ∙ o .0, k s (o .0) d ∙ o .1);
         };
@@ -207,12 +233,18 @@ module _ {p : Pool} {g n : ℕ → ℕ} where
         fits = P .fits;
         number = omega (arith, lives-less g a (p .extent) (l .0) (l .1) h, P .number);
         chain = record { slots = a ∷ xs; walk = (refl, rw e (c′ .walk)); once = (out, c .once); free = (record { low = l .0; within = l .1; free = upd-same g a 0 }, c′ .free) };
+        whole = λ s f. whole s f (ℕ-discrete s a);
         none = upd-other g a 0 0 (omega (arith, l .0)) ∙ P .none;
         past = λ s q. let o = P .past s q in (upd-other g a 0 s (omega (arith, l .1)) ∙ o .0, k s (o .0) ∙ o .1);
       }
+    where
+      whole : (s : ℕ) → Free (upd g a 0) (p .extent) s → Dec (s ≡ a) → (s ≡ a) ⊎ In s (P .chain .slots)
+      whole s f (yes q) = inl q
+      whole s f (no q) = inr (P .whole s (free-else g a 0 f q))
 
   -- a live slot stays live, and the free slots' links stay
   pub keep : Pooled p g n → (a v : ℕ) → g a ≢ 0 → v ≢ 0 → (m : ℕ → ℕ) → ((s : ℕ) → g s ≡ 0 → m s ≡ n s) → Pooled p (upd g a v) m
+  unfolding chain-frame
   keep P a v h u m k =
       let c = P .chain in
       let xs = c .slots in
@@ -223,17 +255,20 @@ module _ {p : Pool} {g n : ℕ → ℕ} where
         chain = chain-frame c (all-of (λ s. (upd g a v s ≡ g s) × (m s ≡ n s)) xs (λ s j.
             let f = all-at (Free g (p .extent)) s xs (c .free) j in
             (upd-other g a v s (λ q. h (rw q at (f .free))), k s (f .free))));
+        whole = λ s f. P .whole s (free-else g a v f (free-not g a v u f));
         none = upd-other g a v 0 (omega (arith, l .0)) ∙ P .none;
         past = λ s q. let o = P .past s q in (upd-other g a v s (omega (arith, l .1)) ∙ o .0, k s (o .0) ∙ o .1);
       }
 
   pub relink : Pooled p g n → (m : ℕ → ℕ) → ((s : ℕ) → g s ≡ 0 → m s ≡ n s) → Pooled p g m
+  unfolding chain-frame
   relink P m k =
       let c = P .chain in
       record {
         fits = P .fits;
         number = P .number;
         chain = chain-frame c (all-map (λ s f. (refl, k s (f .free))) (c .slots) (c .free));
+        whole = P .whole;
         none = P .none;
         past = λ s q. let o = P .past s q in (o .0, k s (o .0) ∙ o .1);
       }
