@@ -53,7 +53,8 @@
       2  each extent is at most its capacity
       3  each live number is how many live slots there are
       4  a live element slot's generation is 1 to 4,294,967,295
-      5  each free chain, from the root along next free, meets free slots only, none twice, and ends at 0
+      5  each free chain, from the root along next free, meets every free slot up to the extent and no other, none
+         twice, and ends at 0
       6  a free slot holds 0 but for next free, a live shared slot 0 in next free, a slot past the extent 0 everywhere
       7  previous and next of a live element slot are live, and undo each other
       8  the class of a live element slot is a live shared slot
@@ -82,8 +83,8 @@ enum doorsedge_refusal {
     DOORSEDGE_UNSOUND = 2,    /* the shape fits, but head and tables are not a sound state (Sound 1 to 12, above) */
     DOORSEDGE_DEAD = 3,       /* a key handed in is not live */
     DOORSEDGE_SAME_CLASS = 4, /* two keys that must be of different runs are of one */
-    DOORSEDGE_NO_ELEMENT = 5, /* no element slot can be taken */
-    DOORSEDGE_NO_SHARED = 6,  /* no shared slot can be taken */
+    DOORSEDGE_NO_ELEMENT = 5, /* no element slot up to the capacity is free */
+    DOORSEDGE_NO_SHARED = 6,  /* no shared slot up to the capacity is free */
     DOORSEDGE_SHORT = 7,      /* a buffer has fewer places than needed */
     DOORSEDGE_SEALED = 12     /* the run is sealed: no frame may come into it, nor may it be sealed again */
 };

@@ -56,9 +56,9 @@ pub enum Refusal {
     Dead = 3,
     /// Two keys that must be of different runs are of one.
     SameClass = 4,
-    /// No element slot can be taken.
+    /// No element slot up to the capacity is free.
     NoElement = 5,
-    /// No shared slot can be taken.
+    /// No shared slot up to the capacity is free.
     NoShared = 6,
     /// A buffer has fewer places than needed.
     Short = 7,
@@ -98,8 +98,8 @@ impl fmt::Display for Refusal {
             Refusal::Unsound => "the state is not sound",
             Refusal::Dead => "a key handed in is not live",
             Refusal::SameClass => "two keys are of one run",
-            Refusal::NoElement => "no element slot can be taken",
-            Refusal::NoShared => "no shared slot can be taken",
+            Refusal::NoElement => "no element slot up to the capacity is free",
+            Refusal::NoShared => "no shared slot up to the capacity is free",
             Refusal::Short => "a buffer has fewer places than needed",
             Refusal::Sealed => "the run is sealed, no frame may come into it",
         };

@@ -2,7 +2,7 @@
 
 use crate::sides::{Bed, Side};
 use model::door::Call;
-use model::{FRAME, Key};
+use model::{FRAME, Head, Key, Rows};
 use std::time::{Duration, Instant};
 
 /// Calls that are timed together, on a state to which they are made one after another.
@@ -172,7 +172,8 @@ pub fn unions(n: usize) -> Batch {
     Batch { name: "union to one ring", bed, calls, per }
 }
 
-/// The check on full tables: rings of one, rings of four, one ring, in order and shuffled; and fresh tables.
+/// The check on full tables: rings of one, rings of four, one ring, in order and shuffled; on tables with half of the slots
+/// on the free chains, in order and shuffled; and on fresh tables.
 pub fn checks(n: usize) -> Vec<Batch> {
     let batch = |name, bed, shuffled: bool| {
         // a check of few slots takes about as long as reading the clock
@@ -183,6 +184,11 @@ pub fn checks(n: usize) -> Vec<Batch> {
         }
         batch
     };
+    let freed = |name, shuffled| {
+        let mut batch = batch(name, Bed::new(n, n, 1), false);
+        free_half(&mut batch.bed, shuffled);
+        batch
+    };
     vec![
         batch("fresh", Bed::new(n, 0, 1), false),
         batch("rings of one", Bed::new(n, n, 1), false),
@@ -190,6 +196,8 @@ pub fn checks(n: usize) -> Vec<Batch> {
         batch("rings of four, shuffled", Bed::new(n, n, 4), true),
         batch("one ring", Bed::new(n, n, n), false),
         batch("one ring, shuffled", Bed::new(n, n, n), true),
+        freed("half free", false),
+        freed("half free, shuffled", true),
     ]
 }
 
@@ -197,15 +205,34 @@ pub fn checks(n: usize) -> Vec<Batch> {
 fn shuffle(bed: &mut Bed) {
     let n = bed.host.head[1] as usize;
     let mut to: Vec<usize> = (0..n).collect();
-    let mut seed = 88_172_645_463_325_252u64;
-    for i in (1..n).rev() {
-        next(&mut seed);
-        to.swap(i, seed as usize % (i + 1));
-    }
+    mix(&mut to);
     let old = bed.host.elems.clone();
     let moved = |slot: u64| to[slot as usize - 1] as u64 + 1;
     for (row, &at) in old.chunks(FRAME).zip(&to) {
         let new = [row[0], row[1], row[2], moved(row[3]), moved(row[4])];
         bed.host.elems[at * FRAME..][..FRAME].copy_from_slice(&new);
     }
+}
+
+fn mix<T>(items: &mut [T]) {
+    let mut seed = 88_172_645_463_325_252u64;
+    for i in (1..items.len()).rev() {
+        next(&mut seed);
+        items.swap(i, seed as usize % (i + 1));
+    }
+}
+
+/// Every other frame removed, and so its run. Only the numbers are changed.
+fn free_half(bed: &mut Bed, shuffled: bool) {
+    let host = &mut bed.host;
+    let mut slots: Vec<u64> = (1..=host.head[1]).step_by(2).collect();
+    if shuffled {
+        mix(&mut slots);
+    }
+    let mut head = Head::of(&host.head);
+    let mut rows = Rows { head: &mut head, elems: &mut host.elems, shared: &mut host.shared };
+    for slot in slots {
+        rows.remove_element(Key { slot, generation: 1 }).unwrap();
+    }
+    host.head = head.numbers();
 }

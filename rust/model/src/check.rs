@@ -1,7 +1,8 @@
 //! The soundness check in plain Rust, linear in the extents plus capacity.
 //!
 //! Slots ascending: a live one whose class is not yet marked begins a ring, which is walked once. Where previous undoes
-//! next, a walk that closes meets no frame twice; the live numbers then say that every frame and header was met.
+//! next, a walk that closes meets no frame twice. The free chains have as many slots as the extents leave after the live
+//! numbers, so where as many frames and rings were met as those numbers say, every slot was met (ticket 4 of document 02).
 
 use crate::layout::*;
 
@@ -26,10 +27,9 @@ fn zeros(table: &[u64]) -> bool {
     table.iter().fold(0, |or, number| or | number) == 0
 }
 
-/// The zeros, the marks and the live number of the shared slots.
+/// The zeros and the marks of the shared slots.
 fn headers_ok(head: &Head, shared: &[u64]) -> bool {
     let (used, past) = shared.split_at(head.shared.extent as usize * HEADER);
-    let mut live = 0;
     for row in used.chunks_exact(HEADER) {
         if row[COUNT] == 0 {
             if row[VALUE] != 0 || row[MARK] != 0 {
@@ -37,18 +37,19 @@ fn headers_ok(head: &Head, shared: &[u64]) -> bool {
             }
         } else if row[NEXT_FREE] != 0 || row[MARK] > 1 {
             return false;
-        } else {
-            live += 1;
         }
     }
-    live == head.shared.live && zeros(past)
+    zeros(past)
 }
 
-/// A free chain that does not end within as many steps as the extent meets some slot twice.
+/// The free chain ends after as many slots as the extent leaves after the live ones. So it meets none twice.
 fn chain_ok(pool: &Pool, table: &[u64], width: usize, link: usize) -> bool {
-    let (mut slot, mut left) = (pool.root, pool.extent);
-    while slot != 0 {
-        if left == 0 || slot > pool.extent {
+    if pool.live > pool.extent {
+        return false;
+    }
+    let mut slot = pool.root;
+    for _ in pool.live..pool.extent {
+        if slot == 0 || slot > pool.extent {
             return false;
         }
         let row = &table[(slot as usize - 1) * width..][..width];
@@ -56,9 +57,8 @@ fn chain_ok(pool: &Pool, table: &[u64], width: usize, link: usize) -> bool {
             return false;
         }
         slot = row[link];
-        left -= 1;
     }
-    true
+    slot == 0
 }
 
 /// With few shared slots there are few marks to clear first.
@@ -71,7 +71,7 @@ fn rings_ok(head: &Head, elems: &[u64], shared: &[u64]) -> bool {
 }
 
 fn scan(head: &Head, elems: &[u64], shared: &[u64], marked: &mut [u64]) -> bool {
-    let (mut live, mut met, mut rings) = (0, 0, 0);
+    let (mut met, mut rings) = (0, 0);
     for slot in 1..=head.elems.extent {
         let row = frame(elems, slot);
         if row[GENERATION] == 0 {
@@ -80,7 +80,6 @@ fn scan(head: &Head, elems: &[u64], shared: &[u64], marked: &mut [u64]) -> bool 
             }
             continue;
         }
-        live += 1;
         let class = row[CLASS];
         if class == 0 || class > head.shared.extent {
             return false;
@@ -97,7 +96,7 @@ fn scan(head: &Head, elems: &[u64], shared: &[u64], marked: &mut [u64]) -> bool 
         met += count;
         rings += 1;
     }
-    live == head.elems.live && met == live && rings == head.shared.live
+    met == head.elems.live && rings == head.shared.live
 }
 
 fn frame(elems: &[u64], slot: u64) -> &[u64; FRAME] {

@@ -1,5 +1,5 @@
-//! Soundness sentence by sentence, as document 01's "Tables and head" has it, and document 02's ticket 1 of the mark, by
-//! sets: slow, and no algorithm in it.
+//! Soundness sentence by sentence, as document 01's "Tables and head" has it, and document 02's tickets 1 of the mark and 4
+//! of the free chain, by sets: slow, and no algorithm in it.
 
 use crate::layout::*;
 use std::collections::{BTreeMap, BTreeSet};
@@ -54,7 +54,12 @@ impl<'a> Side<'a> {
         (1..=self.pool.extent).filter(|&slot| self.at(slot, 0) != 0).collect()
     }
 
-    /// The free chain starts at its root, stays within the extent, meets only free slots, none twice, and ends at 0.
+    fn free(&self) -> BTreeSet<u64> {
+        (1..=self.pool.extent).filter(|&slot| self.at(slot, 0) == 0).collect()
+    }
+
+    /// The free chain starts at its root, stays within the extent, meets only free slots, none twice, and ends at 0; and
+    /// every free slot up to the extent is on it.
     fn chain_ok(&self) -> bool {
         let mut met = BTreeSet::new();
         let mut slot = self.pool.root;
@@ -64,7 +69,7 @@ impl<'a> Side<'a> {
             }
             slot = self.at(slot, self.link);
         }
-        true
+        met == self.free()
     }
 
     /// Free slots and slots past the extent hold zeros where said.

@@ -1,5 +1,6 @@
 //! The archive's C entries, called as the model's door is, and a host that compares the two.
 
+pub mod chains;
 pub mod random;
 
 use doorsedge::sys::*;

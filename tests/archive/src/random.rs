@@ -93,7 +93,7 @@ pub fn compare(calls: u64, seed: u64) -> Tally {
 }
 
 /// A new state, sometimes shortly before the generation's last number.
-fn begun(r: &mut Random) -> Host {
+pub(crate) fn begun(r: &mut Random) -> Host {
     let most = r.of(&[1, 4, 6, 8, 12, 16, 16, 80]);
     let mut host = Host::fresh(1 + r.below(most), 1 + r.below(most));
     if r.one_in(4) {
@@ -161,7 +161,7 @@ fn any_key(keys: &[Key], r: &mut Random) -> Key {
     r.of(keys)
 }
 
-fn any_call(host: &Host, r: &mut Random) -> Call {
+pub(crate) fn any_call(host: &Host, r: &mut Random) -> Call {
     let keys = host.keys();
     let (j, k) = (any_key(&keys, r), any_key(&keys, r));
     let (a, b, elems, shared) = (r.odd(50), r.odd(50), r.below(7), r.below(7));
@@ -194,7 +194,7 @@ fn any_call(host: &Host, r: &mut Random) -> Call {
 }
 
 /// A buffer about as long as needed, with numbers in it.
-fn any_buffer(host: &Host, call: &Call, r: &mut Random) -> Vec<u64> {
+pub(crate) fn any_buffer(host: &Host, call: &Call, r: &mut Random) -> Vec<u64> {
     let frames = host.keys().len();
     let most = match call {
         Call::List(_) => frames * PLACE,

@@ -169,7 +169,7 @@ fn each_sentence_of_soundness() {
     }
     // the free header
     const FREE: usize = 2 * HEADER;
-    let breaks: [(&str, fn(&mut Host)); 24] = [
+    let breaks: [(&str, fn(&mut Host)); 26] = [
         ("generation 0", |h| h.head[8] = 0),
         ("generation past the last", |h| h.head[8] = 4_294_967_296),
         ("element extent past its capacity", |h| h.head[1] = 5),
@@ -177,11 +177,13 @@ fn each_sentence_of_soundness() {
         ("element live number", |h| h.head[3] = 2),
         ("shared live number", |h| h.head[7] = 3),
         ("a frame's generation past the last", |h| h.elems[0] = 4_294_967_296),
-        ("element chain past the extent", |h| h.head[2] = 5),
-        ("element chain at a live slot", |h| h.head[2] = 1),
+        ("element chain past the extent", |h| h.elems[19] = 5),
+        ("element chain at a live slot", |h| h.elems[19] = 1),
         ("element chain without end", |h| h.elems[19] = 4),
-        ("shared chain past the extent", |h| h.head[6] = 4),
-        ("shared chain at a live slot", |h| h.head[6] = 1),
+        ("free element slot off the chain", |h| h.head[2] = 0),
+        ("shared chain past the extent", |h| h.shared[FREE + NEXT_FREE] = 4),
+        ("shared chain at a live slot", |h| h.shared[FREE + NEXT_FREE] = 1),
+        ("free shared slot off the chain", |h| h.head[6] = 0),
         ("shared chain without end", |h| h.shared[FREE + NEXT_FREE] = 3),
         ("payload in a free slot", |h| h.elems[16] = 1),
         ("class in a free slot", |h| h.elems[17] = 1),
