@@ -4,6 +4,7 @@ pub use door_reads::get;
 pub use door_reads::get_shared;
 pub use door_reads::in_same_surject;
 pub use door_reads::len_surject;
+pub use door_reads::lookup;
 pub use door_reads::set;
 pub use door_reads::set_shared;
 pub use door_rings::drain;

@@ -9,8 +9,8 @@ use rules::Same;
 ghost use mathlib.Core.Bool.{false};
 ghost use mathlib.Core.List.{[]};
 ghost use Rattle.rules.specs.Tables.{stateOf};
-ghost use Rattle.rules.specs.Answers.{leaves, saidNumber, saidSame, saidExchanged};
-ghost use Rattle.rules.specs.Calls.{AtDoor, lenSurject, inSameSurject, getElement, getShared, setElement, setShared, exchange};
+ghost use Rattle.rules.specs.Answers.{leaves, saidDone, saidNumber, saidSame, saidExchanged};
+ghost use Rattle.rules.specs.Calls.{AtDoor, lenSurject, inSameSurject, getElement, getShared, lookup, setElement, setShared, exchange};
 
 // Rules 1, reads and sets: the size of a class.
 pub fn len_surject(head: Head, elems: &[u64], shared: &[u64], key: Key) -> Number
@@ -49,6 +49,16 @@ pub fn get_shared(head: Head, elems: &[u64], shared: &[u64], key: Key) -> Number
     match gate(head, elems, shared) {
         Done::Refused(n) => Number::Refused(n),
         Done::Done => reads::get_shared(head, elems, shared, key),
+    }
+}
+
+// Ticket 5: whether the key is live, and why not.
+pub fn lookup(head: Head, elems: &[u64], shared: &[u64], key: Key) -> Done
+    ensures { λ r. ⌜ AtDoor (stateOf head (now (elems .entry)) (now (shared .entry))) [] (lookup key) (leaves head (now (elems .entry)) (now (shared .entry)) [] (saidDone r false)) ⌝ }
+{
+    match gate(head, elems, shared) {
+        Done::Refused(n) => Done::Refused(n),
+        Done::Done => reads::lookup(head, elems, shared, key),
     }
 }
 

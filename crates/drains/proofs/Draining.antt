@@ -12,6 +12,7 @@ use Rattle.rules.specs.declared.Key.{Key}
 use Rattle.rules.specs.declared.Rest.{Rest}
 use Rattle.rules.specs.declared.Rest.the-variants.{GoesOn, Last}
 use Rattle.rules.specs.declared.Found.the-variants as lookup
+use Rattle.rules.specs.declared.Cause.{Cause}
 use Rattle.rules.specs.declared.Refusal.the-variants.{Dead, Short}
 use Rattle.rules.specs.Notation.{if_then_else_}
 use Rattle.rules.specs.Tables.{nextOf, State, row, found, sizeAt}
@@ -116,7 +117,7 @@ module _ (st₀ : State) (n x : ℕ) (out₀ : List ℕ) (written₀ : ℕ) (st 
 
 -- drain a run, by its three ways
 module _ (st : State) (lent : List ℕ) (k : Key) where
-  pub drain-3 : found st k ≡ lookup.Dead → outcome st lent (refuse Dead) ≡ step st lent (calls.drain k)
+  pub drain-3 : {cause : Cause} → found st k ≡ lookup.Dead cause → outcome st lent (refuse (Dead cause)) ≡ step st lent (calls.drain k)
   unfolding drain
   drain-3 = written-3 st lent k recordWidth (λ x. drained (sizeAt st x) st x) (λ x. drainRecords (sizeAt st x) st x)
 

@@ -133,12 +133,15 @@ pub fn drain(
     requires { ⌜ Ready (stateOf head (now elems) (now shared)) ⌝ }
     ensures { λ r. ⌜ afterNumber r (now (elems .exit)) (now (shared .exit)) (now (out .exit)) ≡ step (stateOf head (now (elems .entry)) (now (shared .entry))) (now (out .entry)) (calls.drain key) ⌝ }
 {
-    let Found::Live(x) = slots::find(head, elems, key) else {
-        return HeadNumber {
-            head,
-            answer: Number::Refused(Refusal::Dead),
-            over: false,
-        };
+    let x = match slots::find(head, elems, key) {
+        Found::Live(x) => x,
+        Found::Dead(cause) => {
+            return HeadNumber {
+                head,
+                answer: Number::Refused(Refusal::Dead(cause)),
+                over: false,
+            };
+        }
     };
     let size = size_at(head, elems, shared, x);
     if (out.len() as u64) < size * RECORD_WIDTH {

@@ -113,17 +113,21 @@ fn exchange_four(
     requires { ⌜ Ready (stateOf head (now elems) (now shared)) ⌝ }
     ensures { λ r. ⌜ leaves head (now (elems .entry)) (now (shared .exit)) [] (saidExchanged r) ≡ step (stateOf head (now (elems .entry)) (now (shared .entry))) [] (exchange (first ∷ second ∷ third ∷ fourth ∷ []) values) ⌝ }
 {
-    let Found::Live(w) = slots::find(head, elems, first) else {
-        return refused(Refusal::Dead);
+    let w = match slots::find(head, elems, first) {
+        Found::Live(w) => w,
+        Found::Dead(cause) => return refused(Refusal::Dead(cause)),
     };
-    let Found::Live(x) = slots::find(head, elems, second) else {
-        return refused(Refusal::Dead);
+    let x = match slots::find(head, elems, second) {
+        Found::Live(x) => x,
+        Found::Dead(cause) => return refused(Refusal::Dead(cause)),
     };
-    let Found::Live(y) = slots::find(head, elems, third) else {
-        return refused(Refusal::Dead);
+    let y = match slots::find(head, elems, third) {
+        Found::Live(y) => y,
+        Found::Dead(cause) => return refused(Refusal::Dead(cause)),
     };
-    let Found::Live(z) = slots::find(head, elems, fourth) else {
-        return refused(Refusal::Dead);
+    let z = match slots::find(head, elems, fourth) {
+        Found::Live(z) => z,
+        Found::Dead(cause) => return refused(Refusal::Dead(cause)),
     };
     exchange_at(elems, shared, w, x, y, z, values)
 }

@@ -4,7 +4,7 @@ use numbers::answers;
 use rules::Key;
 ghost use mathlib.Core.Path.{_≡_};
 ghost use mathlib.Core.List.{[]};
-ghost use Rattle.rules.specs.Calls.{lenSurject, inSameSurject, getElement, getShared, list};
+ghost use Rattle.rules.specs.Calls.{lenSurject, inSameSurject, getElement, getShared, lookup, list};
 ghost use Rattle.numbers.specs.Numbers.{values};
 ghost use Rattle.promises.specs.Host.{keyOf, AtHost, left};
 
@@ -108,6 +108,29 @@ pub extern "C" fn doorsedge_get_shared(
         },
     );
     answers::number(answer, out)
+}
+
+// Ticket 5: whether the key is live, and why not.
+#[no_mangle]
+pub extern "C" fn doorsedge_lookup(
+    head: &[u64; 9],
+    elems: &[u64],
+    shared: &[u64],
+    slot: u64,
+    generation: u64,
+) -> u64
+    ensures { λ r. ⌜ AtHost (lookup (keyOf slot generation)) values (now (head .entry)) (now (elems .entry)) (now (shared .entry)) [] [] (left r (now (head .entry)) (now (elems .entry)) (now (shared .entry)) [] []) ⌝ }
+{
+    let answer = door::lookup(
+        unpack(*head),
+        elems,
+        shared,
+        Key {
+            slot: slot,
+            generation: generation,
+        },
+    );
+    answers::plain(answer)
 }
 
 // Rules 9: the keys of the run, in ring order from the key.

@@ -94,11 +94,14 @@ pub fn insert(
     requires { ⌜ Ready (stateOf head (now elems) (now shared)) ⌝ }
     ensures { λ r. ⌜ afterInserted r (now (elems .exit)) (now (shared .exit)) [] ≡ step (stateOf head (now (elems .entry)) (now (shared .entry))) [] (insert at payload) ⌝ }
 {
-    let Found::Live(x) = slots::find(head, elems, at) else {
-        return HeadInserted {
-            head,
-            answer: Inserted::Refused(Refusal::Dead),
-        };
+    let x = match slots::find(head, elems, at) {
+        Found::Live(x) => x,
+        Found::Dead(cause) => {
+            return HeadInserted {
+                head,
+                answer: Inserted::Refused(Refusal::Dead(cause)),
+            };
+        }
     };
     if slots::is_sealed(head, elems, shared, x) {
         return HeadInserted {

@@ -103,13 +103,13 @@ module _ (st : State) where
       either t = if t then refuse Short else accept (sizeAt st x ∷ []) false st (keysOf x)
 
       go : (t : Bool) → Alike (either t) (either t) l m
-      go true = record { said = refl; state = refl; text = refl; places = omega arith }
+      go true = record { said = refl; state = refl; text = refl; places = λ e. absurd (omega (arith, e)) }
       go false =
           record {
             said = refl;
             state = refl;
             text = rw (taken l, taken m);
-            places = simp length-append (omega (arith, keys-long x));
+            places = λ e. simp length-append (omega (arith, keys-long x));
           }
 
   pub list-alike : (k : Key) (l m : List ℕ) → length l ≡ length m → Alike (ruling st l (list k)) (ruling st m (list k)) l m
@@ -118,7 +118,7 @@ module _ (st : State) where
     where
       go : (f : Found) → Alike (whenLive f (rule l)) (whenLive f (rule m)) l m
       go (lookup.Live x) = alike l m e x
-      go lookup.Dead = record { said = refl; state = refl; text = refl; places = omega arith }
+      go (lookup.Dead cause) = record { said = refl; state = refl; text = refl; places = λ e. absurd (omega (arith, e)) }
 
 pub listed : (st : State) → Ready st → (k : Key) (head : Head) (elems shared keys written : List ℕ) (said : Said) {before after : List ℕ} {at next : ℕ}
     → length keys ≡ capacity * keyWidth → leaves head elems shared written said ≡ step st keys (list k)

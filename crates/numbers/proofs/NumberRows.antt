@@ -5,7 +5,7 @@ use mathlib.Core.Bool.{Bool, true, false}
 use mathlib.Core.List.{List, [], _∷_, map}
 use Rattle.rules.specs.declared.Head.{Head}
 use Rattle.rules.specs.Refusals.{Said}
-use Rattle.numbers.specs.Numbers.{headOf, values, valuesOver, removalNumbers, Answered}
+use Rattle.numbers.specs.Numbers.{headOf, values, valuesOver, removalNumbers, resultOf, Answered}
 use Rattle.numbers.proofs.Nine.{nineOf}
 
 -- the lent head (docs/LAYOUT.md)
@@ -59,5 +59,10 @@ told = refl
 accepted : Answered removalNumbers (said 0 (41 ∷ 42 ∷ []) true) (51 ∷ 52 ∷ 53 ∷ 54 ∷ []) 0 (41 ∷ 1 ∷ 42 ∷ 1 ∷ [])
 accepted = record { number = refl; out = refl }
 
-refused : Answered removalNumbers (said 3 (41 ∷ 42 ∷ []) true) (51 ∷ 52 ∷ 53 ∷ 54 ∷ []) 3 (51 ∷ 52 ∷ 53 ∷ 54 ∷ [])
+refused : Answered removalNumbers (said 4 (41 ∷ 42 ∷ []) true) (51 ∷ 52 ∷ 53 ∷ 54 ∷ []) 4 (51 ∷ 52 ∷ 53 ∷ 54 ∷ [])
 refused = record { number = refl; out = refl }
+
+-- Ticket 5: the result, with the cause of 3 above its low eight bits
+results : map resultOf (said 0 (1 ∷ []) true ∷ said 2 [] false ∷ said 3 (1 ∷ []) false ∷ said 3 (2 ∷ []) false ∷ said 3 (3 ∷ []) false ∷ said 3 (1 ∷ 9 ∷ []) true ∷ said 4 [] false ∷ said 12 [] false ∷ [])
+    ≡ 0 ∷ 2 ∷ 259 ∷ 515 ∷ 771 ∷ 259 ∷ 4 ∷ 12 ∷ []
+results = refl

@@ -1,5 +1,5 @@
 -- How a lent head and an answer stand as numbers (docs/LAYOUT.md).
-use Prim.Native.Nat.{ℕ}
+use Prim.Native.Nat.{ℕ, _+_, _*_}
 use mathlib.Core.Path.{_≡_}
 use mathlib.Core.Bool.{Bool}
 use mathlib.Core.List.{List, [], _∷_, _++_}
@@ -35,7 +35,11 @@ removal (payload ∷ value ∷ more) over = payload ∷ 1 ∷ value ∷ flag ove
 abbrev pub removalNumbers : Said → List ℕ
 removalNumbers said = removal (said .values) (said .over)
 
+-- Ticket 5: the result of an answer is its number, and the cause of 3 stands above the low eight bits
+abbrev pub resultOf : Said → ℕ
+resultOf said = if said .number == 3 then 3 + 256 * getD (said .values) 0 0 else said .number
+
 -- what the result and `out` say of an answer
 pub record Answered (numbers : Said → List ℕ) (said : Said) (before : List ℕ) (r : ℕ) (after : List ℕ) : Type 0 where
-  pub number : r ≡ said .number
+  pub number : r ≡ resultOf said
   pub out : after ≡ (if said .number == 0 then numbers said else before)

@@ -1,4 +1,5 @@
-// What an answer is at the host: the number as the result, and its values in `out`, which a refusal leaves as it was.
+// What an answer is at the host: the number as the result, with the cause of 3 above it, and its values in `out`, which a refusal leaves as it was.
+use rules::Cause;
 use rules::Done;
 use rules::Inserted;
 use rules::Joined;
@@ -11,9 +12,10 @@ use rules::Seal;
 ghost use mathlib.Core.Path.{_≡_};
 ghost use mathlib.Core.Bool.{Bool};
 ghost use mathlib.Core.List.{[]};
-ghost use Rattle.rules.specs.Refusals.{numberOf};
+ghost use lib.ListN.{getD};
+ghost use Rattle.rules.specs.Refusals.{numberOf, causeNumber, valuesOf, saidRefused};
 ghost use Rattle.rules.specs.Answers.{saidDone, saidNumber, saidSame, saidInserted, saidJoined, saidSeal, saidRemoved, saidOld};
-ghost use Rattle.numbers.specs.Numbers.{Answered, flag, values, valuesOver, removalNumbers};
+ghost use Rattle.numbers.specs.Numbers.{Answered, flag, resultOf, values, valuesOver, removalNumbers};
 
 // Refusals 1 to 8, and 12.
 pub fn number_of(r: Refusal) -> u64
@@ -22,7 +24,7 @@ pub fn number_of(r: Refusal) -> u64
     match r {
         Refusal::Shape => 1,
         Refusal::Unsound => 2,
-        Refusal::Dead => 3,
+        Refusal::Dead(_) => 3,
         Refusal::SameClass => 4,
         Refusal::NoElement => 5,
         Refusal::NoShared => 6,
@@ -30,6 +32,35 @@ pub fn number_of(r: Refusal) -> u64
         Refusal::Malformed => 8,
         Refusal::Sealed => 12,
     }
+}
+
+// Ticket 5: the causes of 3.
+fn cause_number(cause: Cause) -> u64
+    ensures { λ n. ⌜ n ≡ causeNumber cause ⌝ }
+{
+    match cause {
+        Cause::NoSlot => 1,
+        Cause::FreeSlot => 2,
+        Cause::OtherGeneration => 3,
+    }
+}
+
+// Ticket 5: the cause that a refusal carries, 0 for none.
+pub fn cause_of(r: Refusal) -> u64
+    ensures { λ n. ⌜ n ≡ getD (valuesOf r []) 0 0 ⌝ }
+{
+    match r {
+        Refusal::Dead(cause) => cause_number(cause),
+        _ => 0,
+    }
+}
+
+// Ticket 5: what a refusal has for a result, the cause of 3 above its number.
+fn result_of(r: Refusal) -> u64
+    ensures { λ n. ⌜ n ≡ resultOf (saidRefused r) ⌝ }
+{
+    let cause = cause_of(r);
+    number_of(r) + 256 * cause
 }
 
 // Yes is 1 and no is 0.
@@ -48,7 +79,7 @@ pub fn plain(answer: Done) -> u64
 {
     match answer {
         Done::Done => 0,
-        Done::Refused(refusal) => number_of(refusal),
+        Done::Refused(refusal) => result_of(refusal),
     }
 }
 
@@ -61,7 +92,7 @@ pub fn over_only(answer: Done, over: bool, out: &mut [u64; 1]) -> u64
             *out = [number_if(over)];
             0
         }
-        Done::Refused(refusal) => number_of(refusal),
+        Done::Refused(refusal) => result_of(refusal),
     }
 }
 
@@ -74,7 +105,7 @@ pub fn number(answer: Number, out: &mut [u64; 1]) -> u64
             *out = [n];
             0
         }
-        Number::Refused(refusal) => number_of(refusal),
+        Number::Refused(refusal) => result_of(refusal),
     }
 }
 
@@ -87,7 +118,7 @@ pub fn number_over(answer: Number, over: bool, out: &mut [u64; 2]) -> u64
             *out = [n, number_if(over)];
             0
         }
-        Number::Refused(refusal) => number_of(refusal),
+        Number::Refused(refusal) => result_of(refusal),
     }
 }
 
@@ -104,7 +135,7 @@ pub fn same(answer: Same, out: &mut [u64; 1]) -> u64
             *out = [0];
             0
         }
-        Same::Refused(refusal) => number_of(refusal),
+        Same::Refused(refusal) => result_of(refusal),
     }
 }
 
@@ -117,7 +148,7 @@ pub fn key(answer: Inserted, out: &mut [u64; 2]) -> u64
             *out = [key.slot, key.generation];
             0
         }
-        Inserted::Refused(refusal) => number_of(refusal),
+        Inserted::Refused(refusal) => result_of(refusal),
     }
 }
 
@@ -130,7 +161,7 @@ pub fn joined(answer: Joined, out: &mut [u64; 4]) -> u64
             *out = [was, kept.slot, kept.generation, moved];
             0
         }
-        Joined::Refused(refusal) => number_of(refusal),
+        Joined::Refused(refusal) => result_of(refusal),
     }
 }
 
@@ -143,7 +174,7 @@ pub fn sealed(answer: Seal, out: &mut [u64; 2]) -> u64
             *out = [value, count];
             0
         }
-        Seal::Refused(refusal) => number_of(refusal),
+        Seal::Refused(refusal) => result_of(refusal),
     }
 }
 
@@ -165,7 +196,7 @@ pub fn removed(answer: Removed, over: bool, out: &mut [u64; 4]) -> u64
                 }
             }
         }
-        Removed::Refused(refusal) => number_of(refusal),
+        Removed::Refused(refusal) => result_of(refusal),
     }
 }
 
@@ -178,6 +209,6 @@ pub fn four(answer: Done, old: [u64; 4], out: &mut [u64; 4]) -> u64
             *out = old;
             0
         }
-        Done::Refused(refusal) => number_of(refusal),
+        Done::Refused(refusal) => result_of(refusal),
     }
 }

@@ -1,12 +1,12 @@
 -- Worked numbers, all different: keys and truth values as a host hands them in, what an entry leaves, and a sequence of entries.
-use Prim.Native.Nat.{ℕ}
+use Prim.Native.Nat.{ℕ, _+_, _*_}
 use mathlib.Core.Path.{_≡_, refl}
 use mathlib.Core.Bool.{true, false}
 use mathlib.Core.List.{List, [], _∷_, map}
 use lib.ListN.{replicate}
 use Rattle.rules.specs.declared.Head.{Head}
 use Rattle.rules.specs.Refusals.{Said, Outcome}
-use Rattle.rules.specs.Calls.{Call, lenSurject, inSameSurject, getElement, getShared, setElement, setShared, check, newRun, insert, union, remove, removeShared, list, drain, drainAll, clear, exchange, compress}
+use Rattle.rules.specs.Calls.{Call, lenSurject, inSameSurject, getElement, getShared, lookup, setElement, setShared, check, newRun, insert, union, remove, removeShared, list, drain, drainAll, clear, exchange, compress}
 use Rattle.rules.proofs.Cases.{key, pool}
 use Rattle.numbers.specs.Numbers.{headOf, values, valuesOver, removalNumbers}
 use Rattle.promises.specs.Host.{keyOf, keysOf, isSet, Left, left, shown}
@@ -32,13 +32,13 @@ abbrev taken : Head
 taken = record { elems = pool 11 12 13 14; shared = pool 15 16 17 18; generation = 19 }
 
 abbrev leaving : Left
-leaving = record { number = 3; state = record { head = taken; elems = 21 ∷ 22 ∷ []; shared = 31 ∷ 32 ∷ [] }; lent = 41 ∷ 42 ∷ []; out = 51 ∷ 52 ∷ [] }
+leaving = record { number = 4; state = record { head = taken; elems = 21 ∷ 22 ∷ []; shared = 31 ∷ 32 ∷ [] }; lent = 41 ∷ 42 ∷ []; out = 51 ∷ 52 ∷ [] }
 
-leaves-nine : left 3 lent (21 ∷ 22 ∷ []) (31 ∷ 32 ∷ []) (41 ∷ 42 ∷ []) (51 ∷ 52 ∷ []) ≡ leaving
+leaves-nine : left 4 lent (21 ∷ 22 ∷ []) (31 ∷ 32 ∷ []) (41 ∷ 42 ∷ []) (51 ∷ 52 ∷ []) ≡ leaving
 unfolding headOf
 leaves-nine = refl
 
-leaves-in-place : leftAt 3 taken (21 ∷ 22 ∷ []) (31 ∷ 32 ∷ []) (51 ∷ 52 ∷ []) ≡ record { number = 3; state = leaving .state; lent = []; out = 51 ∷ 52 ∷ [] }
+leaves-in-place : leftAt 4 taken (21 ∷ 22 ∷ []) (31 ∷ 32 ∷ []) (51 ∷ 52 ∷ []) ≡ record { number = 4; state = leaving .state; lent = []; out = 51 ∷ 52 ∷ [] }
 leaves-in-place = refl
 
 lends : lentState lent (21 ∷ 22 ∷ []) (31 ∷ 32 ∷ []) ≡ leaving .state
@@ -55,8 +55,12 @@ shows = refl
 shows-accepted : shown values (51 ∷ 52 ∷ []) (outcomeOf 0) ≡ record { number = 0; state = leaving .state; lent = 41 ∷ 42 ∷ []; out = 61 ∷ 62 ∷ [] }
 shows-accepted = refl
 
-shows-refused : shown values (51 ∷ 52 ∷ []) (outcomeOf 3) ≡ leaving
+shows-refused : shown values (51 ∷ 52 ∷ []) (outcomeOf 4) ≡ leaving
 shows-refused = refl
+
+-- Ticket 5: the cause of 3, its first value, stands above it
+shows-cause : shown values (51 ∷ 52 ∷ []) (outcomeOf 3) .number ≡ 3 + 256 * 61
+shows-cause = refl
 
 -- what the host is told of it
 hears : heard 3 (51 ∷ 52 ∷ []) ≡ record { number = 3; values = 51 ∷ 52 ∷ []; over = false }
@@ -75,7 +79,7 @@ tells-over = refl
 abbrev plain : List Call
 plain =
     newRun 1 2 ∷ insert (key 5 7) 1 ∷ union (key 5 7) (key 6 8) ∷ drain (key 5 7) ∷ drainAll ∷ list (key 5 7) ∷ lenSurject (key 5 7) ∷ inSameSurject (key 5 7) (key 6 8) ∷
-    getElement (key 5 7) ∷ getShared (key 5 7) ∷ setElement (key 5 7) 1 ∷ setShared (key 5 7) 2 ∷ exchange [] [] ∷ check ∷ []
+    getElement (key 5 7) ∷ getShared (key 5 7) ∷ lookup (key 5 7) ∷ setElement (key 5 7) 1 ∷ setShared (key 5 7) 2 ∷ exchange [] [] ∷ check ∷ []
 
-tells-values : told plain ≡ replicate 14 (61 ∷ 62 ∷ [])
+tells-values : told plain ≡ replicate 15 (61 ∷ 62 ∷ [])
 tells-values = refl

@@ -29,10 +29,10 @@ two : AfterEntries (4 ∷ 2 ∷ 0 ∷ 2 ∷ 3 ∷ 1 ∷ 0 ∷ 1 ∷ 1 ∷ []) (e
 unfolding rules headOf insertedRuns othersOf runsBut
 two = calledInPlace one (insert (key 1 1) 11) (95 ∷ 94 ∷ []) 0 _ _ _ (2 ∷ 1 ∷ []) (goes-on-in-place one (insert (key 1 1) 11) (95 ∷ 94 ∷ []) refl)
 
--- a dead key, in place: 3, and nothing is noted
+-- a dead key, in place: 3 with its cause, and nothing is noted
 still : AfterEntries (4 ∷ 2 ∷ 0 ∷ 2 ∷ 3 ∷ 1 ∷ 0 ∷ 1 ∷ 1 ∷ []) (e 1 10 1 2 2 ++ e 1 11 1 1 1 ++ zeros frameWidth 2) (s 2 100 0 ++ zeros headerWidth 2) (told ((key 1 1 ∷ key 2 1 ∷ []) ∷ []) 2 0 1)
 unfolding rules headOf
-still = calledInPlace two (insert (key 2 9) 12) (93 ∷ 92 ∷ []) 3 _ _ _ (93 ∷ 92 ∷ []) (goes-on-in-place two (insert (key 2 9) 12) (93 ∷ 92 ∷ []) refl)
+still = calledInPlace two (insert (key 2 9) 12) (93 ∷ 92 ∷ []) 771 _ _ _ (93 ∷ 92 ∷ []) (goes-on-in-place two (insert (key 2 9) 12) (93 ∷ 92 ∷ []) refl)
 
 -- a second run, joined to the first; one of its frames removed in place
 second : AfterEntries (4 ∷ 3 ∷ 0 ∷ 3 ∷ 3 ∷ 2 ∷ 0 ∷ 2 ∷ 1 ∷ []) (e 1 10 1 2 2 ++ e 1 11 1 1 1 ++ e 1 20 2 3 3 ++ zeros frameWidth 1) (s 2 100 0 ++ s 1 200 0 ++ zeros headerWidth 1) (told ((key 3 1 ∷ []) ∷ (key 1 1 ∷ key 2 1 ∷ []) ∷ []) 3 0 1)

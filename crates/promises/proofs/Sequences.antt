@@ -3,6 +3,7 @@ use Prim.Native.Nat.{ℕ}
 use mathlib.Core.Path.{_≡_, refl, sym, ap, _∙_, subst}
 use mathlib.Core.Logic.{_≢_}
 use mathlib.Core.Bool.{Bool, true, false}
+use lib.Dec.{lit<}
 use mathlib.Core.List.{List, []}
 use lib.ListN.{getD}
 use Rattle.rules.specs.declared.Key.{Key}
@@ -13,12 +14,13 @@ use Rattle.rules.specs.Refusals.{Ruling, Said, Outcome, outcome}
 use Rattle.rules.specs.Slots
 use Rattle.rules.specs.Slots.{isFull}
 use Rattle.rules.specs.Runs
-use Rattle.rules.specs.Calls.{Call, lenSurject, inSameSurject, getElement, getShared, setElement, setShared, check, newRun, insert, union, remove, removeShared, list, drain, seal, drainAll, clear, exchange, compress, compressWith, step, AtDoor}
+use Rattle.rules.specs.Calls.{Call, lenSurject, inSameSurject, getElement, getShared, lookup, setElement, setShared, check, newRun, insert, union, remove, removeShared, list, drain, seal, drainAll, clear, exchange, compress, compressWith, step, freshStep, AtDoor}
 use Rattle.rules.specs.History.{History, accepted, noted, notedFresh, nothing}
 use Rattle.rules.specs.Demand.{After, start, fresh, call, Union}
 use Rattle.rules.proofs.laws.Rulings.{by-test, by-key}
 use Rattle.rules.proofs.laws.DemandThree
-use Rattle.numbers.specs.Numbers.{headOf, values}
+use Rattle.numbers.specs.Numbers.{headOf, values, resultOf}
+use Rattle.numbers.proofs.Told.{zero-result, small}
 use Rattle.numbers.proofs.Nine.{nineOf, head-of-nine}
 use Rattle.promises.specs.Host.{Left, left, shown, AtHost}
 use Rattle.promises.specs.InPlace.{leftAt, AtHead}
@@ -41,6 +43,7 @@ accepted-heard h (lenSurject k) said = refl
 accepted-heard h (inSameSurject j k) said = refl
 accepted-heard h (getElement k) said = refl
 accepted-heard h (getShared k) said = refl
+accepted-heard h (lookup k) said = refl
 accepted-heard h (setElement k payload) said = refl
 accepted-heard h (setShared k value) said = refl
 accepted-heard h (exchange keys news) said = refl
@@ -48,12 +51,19 @@ accepted-heard h (list k) said = refl
 accepted-heard h check said = refl
 
 -- so what a host is told notes the history that the answer does
-noted-heard : (h : History) (c : Call) (out : List ℕ) (o : Outcome) → noted h c (heard (o .said .number) (shown (numbersOf c) out o .out)) ≡ noted h c (o .said)
-noted-heard h c out o = go (o .said .number == 0)
+noted-heard : (h : History) (c : Call) (out : List ℕ) (o : Outcome) → noted h c (heard (resultOf (o .said)) (shown (numbersOf c) out o .out)) ≡ noted h c (o .said)
+noted-heard h c out o = rw (zero-result (o .said)) (go (o .said .number == 0))
   where
     go : (b : Bool) → (if b then accepted h c (if b then numbersOf c (o .said) else out) else h) ≡ (if b then accepted h c (o .said .values) else h)
     go true = accepted-heard h c (o .said)
     go false = refl
+
+noted-fresh : (h : History) (said : Said) → notedFresh h (heard (resultOf said) []) ≡ notedFresh h said
+noted-fresh h said = rw (zero-result said)
+
+-- 1 and 2 are told as they are
+not-refused : (said : Said) → (said .number ≢ 1) × (said .number ≢ 2) → (resultOf said ≢ 1) × (resultOf said ≢ 2)
+not-refused said n = ((λ e. n .0 (small said 1 (lit< tt) .0 e)), λ e. n .1 (small said 2 (lit< tt) .0 e))
 
 -- from the state that the lent head and tables are, an entry's promise leads to the state that they are then
 module _ (h : History) (c : Call) (st : State) (after-st : After st h) (lent out : List ℕ) (after : Left) (o : Outcome) where
@@ -65,9 +75,9 @@ module _ (h : History) (c : Call) (st : State) (after-st : After st h) (lent out
 pub after-entries : {head elems shared : List ℕ} {h : History} → AfterEntries head elems shared h → After (lentState head elems shared) h
 after-entries (begun ec sc head elems shared head′ elems′ shared′ p) =
     let st = lentState head elems shared in
-    subst (λ (l : Left). After (l .state) nothing) (sym (p .same)) (start st ec sc (sym (ap (λ (l : Left). l .number) (p .same))))
+    subst (λ (l : Left). After (l .state) nothing) (sym (p .same)) (start st ec sc (small (freshStep st ec sc .said) 0 (lit< tt) .0 (sym (ap (λ (l : Left). l .number) (p .same)))))
 after-entries (freshened {head = head} {elems = elems} {shared = shared} {h = h} a ec sc r head′ elems′ shared′ p) =
-    subst (λ (l : Left). After (l .state) (notedFresh h (heard (l .number) []))) (sym (p .same)) (fresh (after-entries a) ec sc)
+    subst (λ (l : Left). After (l .state) (notedFresh h (heard (l .number) []))) (sym (p .same)) (rw (noted-fresh h (freshStep (lentState head elems shared) ec sc .said)) (fresh (after-entries a) ec sc))
 after-entries (called {h = h} a c lent out r head′ elems′ shared′ lent′ out′ p) =
     leads h c _ (after-entries a) lent out (left r head′ elems′ shared′ lent′ out′) (p .outcome) (p .door) (p .same)
 after-entries (calledInPlace {h = h} a c out r head′ elems′ shared′ out′ p) =
@@ -123,7 +133,7 @@ at-union : {head elems shared : List ℕ} (h : History) → AfterEntries head el
     → AtDoor (lentState head elems shared) lent (union j k) o → after ≡ shown values out o → after .number ≡ 0
     → Union (lentState head elems shared) h j k (seen after)
 at-union {head} {elems} {shared} h a j k lent out after o d e z =
-    let zero : o .said .number ≡ 0 = sym (ap (λ (l : Left). l .number) e) ∙ z in
+    let zero : o .said .number ≡ 0 = small (o .said) 0 (lit< tt) .0 (sym (ap (λ (l : Left). l .number) e) ∙ z) in
     let u = DemandThree.demand-3 .unions _ h (after-entries a) lent j k o d zero in
     let told : shown values out o .out ≡ o .said .values = rw zero in
     subst (λ (l : Left). Union (lentState head elems shared) h j k (seen l)) (sym e)
@@ -133,9 +143,9 @@ at-union {head} {elems} {shared} h a j k lent out after o d e z =
 pub demand-3-at-host : Demand3AtHost
 demand-3-at-host = record {
   passes = λ head elems shared h a c numbers lent out after p.
-      subst (λ (l : Left). (l .number ≢ 1) × (l .number ≢ 2)) (sym (p .same)) (DemandThree.demand-3 .passes _ h (after-entries a) lent c (p .outcome) (p .door));
+      subst (λ (l : Left). (l .number ≢ 1) × (l .number ≢ 2)) (sym (p .same)) (not-refused (p .outcome .said) (DemandThree.demand-3 .passes _ h (after-entries a) lent c (p .outcome) (p .door)));
   passesInPlace = λ head elems shared h a c numbers out after p.
-      subst (λ (l : Left). (l .number ≢ 1) × (l .number ≢ 2)) (sym (p .same)) (DemandThree.demand-3 .passes _ h (after-entries a) [] c (p .outcome) (p .door));
+      subst (λ (l : Left). (l .number ≢ 1) × (l .number ≢ 2)) (sym (p .same)) (not-refused (p .outcome .said) (DemandThree.demand-3 .passes _ h (after-entries a) [] c (p .outcome) (p .door)));
   rings = λ head elems shared h a. DemandThree.demand-3 .rings _ h (after-entries a);
   unions = λ head elems shared h a j k lent out head′ elems′ shared′ lent′ out′ p. at-union h a j k lent out _ (p .outcome) (p .door) (p .same) refl;
 }

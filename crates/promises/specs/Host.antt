@@ -9,7 +9,7 @@ use Rattle.rules.specs.Notation.{if_then_else_, _==_}
 use Rattle.rules.specs.Tables.{State, stateOf}
 use Rattle.rules.specs.Refusals.{Said, Outcome}
 use Rattle.rules.specs.Calls.{Call, AtDoor, freshStep}
-use Rattle.numbers.specs.Numbers.{headOf, values}
+use Rattle.numbers.specs.Numbers.{headOf, values, resultOf}
 
 abbrev pub keyOf : (slot generation : ℕ) → Key
 keyOf slot generation = record { slot = slot; generation = generation }
@@ -33,10 +33,10 @@ abbrev pub left : (number : ℕ) → (head elems shared lent out : List ℕ) →
 left number head elems shared lent out =
     record { number = number; state = stateOf (headOf head) elems shared; lent = lent; out = out }
 
--- the same by an outcome: `out` holds the answer's numbers when accepted, and is as it was when refused
+-- the same by an outcome: the result has the cause of 3 above its number (Ticket 5), `out` holds the answer's numbers when accepted, and is as it was when refused
 abbrev pub shown : (numbers : Said → List ℕ) → (out : List ℕ) → Outcome → Left
 shown numbers out o =
-    record { number = o .said .number; state = o .state; lent = o .lent; out = if o .said .number == 0 then numbers (o .said) else out }
+    record { number = resultOf (o .said); state = o .state; lent = o .lent; out = if o .said .number == 0 then numbers (o .said) else out }
 
 -- The promise of an entry over a lent head, tables, buffer and `out`
 pub record AtHost (c : Call) (numbers : Said → List ℕ) (head elems shared lent out : List ℕ) (after : Left) : Type 0 where

@@ -1,7 +1,8 @@
-// Reads (Rules 1) at the inner door: each equal to its rule, on a ready state.
+// Reads (Rules 1, Ticket 5) at the inner door: each equal to its rule, on a ready state.
 // Ported from len_surject, in_same_surject and get_shared of surject_arena.rs (triple_arena 0.15.1, NOTICE).
 use rules::CLASS;
 use rules::COUNT;
+use rules::Done;
 use rules::FRAME;
 use rules::Found;
 use rules::HEADER;
@@ -16,16 +17,17 @@ ghost use mathlib.Core.Path.{_≡_};
 ghost use mathlib.Core.Bool.{false};
 ghost use mathlib.Core.List.{[]};
 ghost use Rattle.rules.specs.Tables.{stateOf};
-ghost use Rattle.rules.specs.Calls.{Ready, step, lenSurject, inSameSurject, getElement, getShared};
-ghost use Rattle.rules.specs.Answers.{leaves, saidNumber, saidSame};
+ghost use Rattle.rules.specs.Calls.{Ready, step, lenSurject, inSameSurject, getElement, getShared, lookup};
+ghost use Rattle.rules.specs.Answers.{leaves, saidDone, saidNumber, saidSame};
 
 // The number of frames in the key's class.
 pub fn len_surject(head: Head, elems: &[u64], shared: &[u64], key: Key) -> Number
     requires { ⌜ Ready (stateOf head (now elems) (now shared)) ⌝ }
     ensures { λ r. ⌜ leaves head (now (elems .entry)) (now (shared .entry)) [] (saidNumber r false) ≡ step (stateOf head (now (elems .entry)) (now (shared .entry))) [] (lenSurject key) ⌝ }
 {
-    let Found::Live(x) = slots::find(head, elems, key) else {
-        return Number::Refused(Refusal::Dead);
+    let x = match slots::find(head, elems, key) {
+        Found::Live(x) => x,
+        Found::Dead(cause) => return Number::Refused(Refusal::Dead(cause)),
     };
     let class = slots::get(elems, FRAME, CLASS, x);
     Number::Is(slots::get(shared, HEADER, COUNT, class))
@@ -36,11 +38,13 @@ pub fn in_same_surject(head: Head, elems: &[u64], shared: &[u64], j: Key, k: Key
     requires { ⌜ Ready (stateOf head (now elems) (now shared)) ⌝ }
     ensures { λ r. ⌜ leaves head (now (elems .entry)) (now (shared .entry)) [] (saidSame r) ≡ step (stateOf head (now (elems .entry)) (now (shared .entry))) [] (inSameSurject j k) ⌝ }
 {
-    let Found::Live(x) = slots::find(head, elems, j) else {
-        return Same::Refused(Refusal::Dead);
+    let x = match slots::find(head, elems, j) {
+        Found::Live(x) => x,
+        Found::Dead(cause) => return Same::Refused(Refusal::Dead(cause)),
     };
-    let Found::Live(y) = slots::find(head, elems, k) else {
-        return Same::Refused(Refusal::Dead);
+    let y = match slots::find(head, elems, k) {
+        Found::Live(y) => y,
+        Found::Dead(cause) => return Same::Refused(Refusal::Dead(cause)),
     };
     let class = slots::get(elems, FRAME, CLASS, x);
     if class == slots::get(elems, FRAME, CLASS, y) {
@@ -54,8 +58,9 @@ pub fn get(head: Head, elems: &[u64], shared: &[u64], key: Key) -> Number
     requires { ⌜ Ready (stateOf head (now elems) (now shared)) ⌝ }
     ensures { λ r. ⌜ leaves head (now (elems .entry)) (now (shared .entry)) [] (saidNumber r false) ≡ step (stateOf head (now (elems .entry)) (now (shared .entry))) [] (getElement key) ⌝ }
 {
-    let Found::Live(x) = slots::find(head, elems, key) else {
-        return Number::Refused(Refusal::Dead);
+    let x = match slots::find(head, elems, key) {
+        Found::Live(x) => x,
+        Found::Dead(cause) => return Number::Refused(Refusal::Dead(cause)),
     };
     Number::Is(slots::get(elems, FRAME, PAYLOAD, x))
 }
@@ -65,9 +70,21 @@ pub fn get_shared(head: Head, elems: &[u64], shared: &[u64], key: Key) -> Number
     requires { ⌜ Ready (stateOf head (now elems) (now shared)) ⌝ }
     ensures { λ r. ⌜ leaves head (now (elems .entry)) (now (shared .entry)) [] (saidNumber r false) ≡ step (stateOf head (now (elems .entry)) (now (shared .entry))) [] (getShared key) ⌝ }
 {
-    let Found::Live(x) = slots::find(head, elems, key) else {
-        return Number::Refused(Refusal::Dead);
+    let x = match slots::find(head, elems, key) {
+        Found::Live(x) => x,
+        Found::Dead(cause) => return Number::Refused(Refusal::Dead(cause)),
     };
     let class = slots::get(elems, FRAME, CLASS, x);
     Number::Is(slots::get(shared, HEADER, VALUE, class))
+}
+
+// Ticket 5: whether the key is live, and why not.
+pub fn lookup(head: Head, elems: &[u64], shared: &[u64], key: Key) -> Done
+    requires { ⌜ Ready (stateOf head (now elems) (now shared)) ⌝ }
+    ensures { λ r. ⌜ leaves head (now (elems .entry)) (now (shared .entry)) [] (saidDone r false) ≡ step (stateOf head (now (elems .entry)) (now (shared .entry))) [] (lookup key) ⌝ }
+{
+    match slots::find(head, elems, key) {
+        Found::Live(_) => Done::Done,
+        Found::Dead(cause) => Done::Refused(Refusal::Dead(cause)),
+    }
 }

@@ -84,12 +84,15 @@ pub fn remove_element(head: Head, elems: &mut [u64], shared: &mut [u64], key: Ke
     requires { ⌜ Ready (stateOf head (now elems) (now shared)) ⌝ }
     ensures { λ r. ⌜ afterRemoved r (now (elems .exit)) (now (shared .exit)) [] ≡ step (stateOf head (now (elems .entry)) (now (shared .entry))) [] (remove key) ⌝ }
 {
-    let Found::Live(x) = slots::find(head, elems, key) else {
-        return HeadRemoved {
-            head,
-            answer: Removed::Refused(Refusal::Dead),
-            over: false,
-        };
+    let x = match slots::find(head, elems, key) {
+        Found::Live(x) => x,
+        Found::Dead(cause) => {
+            return HeadRemoved {
+                head,
+                answer: Removed::Refused(Refusal::Dead(cause)),
+                over: false,
+            };
+        }
     };
     let out = remove_at(head, elems, shared, x);
     let next = out.head;

@@ -11,6 +11,7 @@ use Rattle.rules.specs.declared.Key.{Key}
 use Rattle.rules.specs.declared.Raised.{Raised}
 use Rattle.rules.specs.declared.Number.the-variants.{Is}
 use Rattle.rules.specs.declared.Found.the-variants as lookup
+use Rattle.rules.specs.declared.Cause.{Cause}
 use Rattle.rules.specs.declared.Refusal.the-variants.{Dead}
 use Rattle.rules.specs.Notation.{_==_}
 use Rattle.rules.specs.Tables.{lastGeneration, frameWidth, classOf, nextOf, countOf, valueOf, State, stateOf, withGeneration, found, sizeAt}
@@ -128,6 +129,6 @@ module _ (st : State) (n x class : ℕ) (emptied : Head) (e : List ℕ) (ring : 
         let gone : stateOf freed e s ≡ freeShared (freeRing (sizeAt st x) st x) (classOf (st .elems) x) = rw (← sized, ← c, ← ring) header in
         simp live (rw (up, valued, ← gone, freed-generation))
 
-pub removeShared-3 : (st : State) (k : Key) → found st k ≡ lookup.Dead → outcome st [] (refuse Dead) ≡ step st [] (calls.removeShared k)
+pub removeShared-3 : (st : State) (k : Key) {cause : Cause} → found st k ≡ lookup.Dead cause → outcome st [] (refuse (Dead cause)) ≡ step st [] (calls.removeShared k)
 unfolding removeShared
 removeShared-3 st k p = simp p

@@ -10,6 +10,7 @@ use lib.ListN.{length}
 use lib.Seq.{sets}
 use Rattle.rules.specs.declared.Key.{Key}
 use Rattle.rules.specs.declared.Found.the-variants as lookup
+use Rattle.rules.specs.declared.Cause.{Cause}
 use Rattle.rules.specs.declared.Refusal.the-variants.{Dead, Short}
 use Rattle.rules.specs.Notation.{along}
 use Rattle.rules.specs.Tables.{frameWidth, nextOf, row, State, found, sizeAt}
@@ -65,7 +66,7 @@ module _ (w : ℕ) (place : ℕ → List ℕ) (e out₀ : List ℕ) (n x : ℕ) 
 
 -- list, by its three ways
 module _ (st : State) (lent : List ℕ) (k : Key) where
-  pub list-3 : found st k ≡ lookup.Dead → outcome st lent (refuse Dead) ≡ step st lent (calls.list k)
+  pub list-3 : {cause : Cause} → found st k ≡ lookup.Dead cause → outcome st lent (refuse (Dead cause)) ≡ step st lent (calls.list k)
   unfolding list
   list-3 = written-3 st lent k keyWidth (λ x. st) (λ x. keysAlong (st .elems) (sizeAt st x) x)
 

@@ -9,6 +9,7 @@ use lib.ListN.{length}
 use lib.Seq.{sets}
 use Rattle.rules.specs.declared.Key.{Key}
 use Rattle.rules.specs.declared.Found.the-variants as lookup
+use Rattle.rules.specs.declared.Cause.{Cause}
 use Rattle.rules.specs.declared.Refusal.the-variants.{Dead, Short}
 use Rattle.rules.specs.Notation.{if_then_else_}
 use Rattle.rules.specs.Tables.{State, found, sizeAt}
@@ -20,7 +21,7 @@ module _ (st : State) (lent : List ℕ) (k : Key) (width : ℕ) (next : ℕ → 
   abbrev pub runWritten : Ruling
   runWritten = withLive st k λ x. if isShort lent (sizeAt st x) width then refuse Short else accept (sizeAt st x ∷ []) false (next x) (places x)
 
-  pub written-3 : found st k ≡ lookup.Dead → outcome st lent (refuse Dead) ≡ outcome st lent runWritten
+  pub written-3 : {cause : Cause} → found st k ≡ lookup.Dead cause → outcome st lent (refuse (Dead cause)) ≡ outcome st lent runWritten
   written-3 p = simp p
 
   pub written-7 : (x : ℕ) → found st k ≡ lookup.Live x → length lent < sizeAt st x * width → outcome st lent (refuse Short) ≡ outcome st lent runWritten

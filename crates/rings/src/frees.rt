@@ -42,12 +42,15 @@ pub fn remove_shared(head: Head, elems: &mut [u64], shared: &mut [u64], key: Key
     requires { ⌜ Ready (stateOf head (now elems) (now shared)) ⌝ }
     ensures { λ r. ⌜ afterNumber r (now (elems .exit)) (now (shared .exit)) [] ≡ step (stateOf head (now (elems .entry)) (now (shared .entry))) [] (removeShared key) ⌝ }
 {
-    let Found::Live(x) = slots::find(head, elems, key) else {
-        return HeadNumber {
-            head,
-            answer: Number::Refused(Refusal::Dead),
-            over: false,
-        };
+    let x = match slots::find(head, elems, key) {
+        Found::Live(x) => x,
+        Found::Dead(cause) => {
+            return HeadNumber {
+                head,
+                answer: Number::Refused(Refusal::Dead(cause)),
+                over: false,
+            };
+        }
     };
     let class = slots::get(elems, FRAME, CLASS, x);
     let size = slots::get(shared, HEADER, COUNT, class);

@@ -68,8 +68,9 @@ pub fn list(head: Head, elems: &[u64], shared: &[u64], key: Key, out: &mut [u64]
     requires { ⌜ Ready (stateOf head (now elems) (now shared)) ⌝ }
     ensures { λ r. ⌜ leaves head (now (elems .entry)) (now (shared .entry)) (now (out .exit)) (saidNumber r false) ≡ step (stateOf head (now (elems .entry)) (now (shared .entry))) (now (out .entry)) (calls.list key) ⌝ }
 {
-    let Found::Live(x) = slots::find(head, elems, key) else {
-        return Number::Refused(Refusal::Dead);
+    let x = match slots::find(head, elems, key) {
+        Found::Live(x) => x,
+        Found::Dead(cause) => return Number::Refused(Refusal::Dead(cause)),
     };
     let size = size_at(head, elems, shared, x);
     if (out.len() as u64) < size * KEY_WIDTH {

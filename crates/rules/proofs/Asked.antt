@@ -2,7 +2,7 @@
 use Prim.Native.Nat.{ℕ}
 use native.Mathlib.Omega.{arith}
 use mathlib.Core.Path.{_≡_, refl, ap}
-use mathlib.Core.Logic.{inl, inr}
+use mathlib.Core.Logic.{_⊎_, inl, inr}
 use mathlib.Core.Bool.{Bool, true, false, true≢false, false≢true}
 use mathlib.Core.List.{List, [], _∷_, _++_, map}
 use lib.Dec.{lit<}
@@ -10,13 +10,15 @@ use lib.ListN.{replicate}
 use Rattle.rules.specs.declared.Key.{Key}
 use Rattle.rules.specs.declared.Found.{Found}
 use Rattle.rules.specs.declared.Found.the-variants as lookup
+use Rattle.rules.specs.declared.Cause.the-variants.{NoSlot, FreeSlot, OtherGeneration}
 use Rattle.rules.specs.declared.Refusal.the-variants.{Shape, Unsound, Dead, SameClass, NoElement, NoShared, Short, Malformed, Sealed}
-use Rattle.rules.specs.Tables.{State, LiveKey}
-use Rattle.rules.specs.Refusals.{numberOf}
-use Rattle.rules.specs.Calls.{Call, lenSurject, inSameSurject, getElement, getShared, setElement, setShared, check, newRun, insert, union, remove, removeShared, list, drain, seal, drainAll, clear, exchange, compress, compressWith}
-use Rattle.rules.specs.Exact.{Asks, asks, Sentence, earlier, Given, Accepted}
+use Rattle.rules.specs.Tables.{State}
+use Rattle.rules.specs.Refusals.{numberOf, causeNumber, valuesOf}
+use Rattle.rules.specs.Calls.{Call, lenSurject, inSameSurject, getElement, getShared, lookup, setElement, setShared, check, newRun, insert, union, remove, removeShared, list, drain, seal, drainAll, clear, exchange, compress, compressWith}
+use Rattle.rules.specs.Exact.{Asks, asks, Why, sooner, Because, Sentence, earlier, Given, Accepted}
 use Rattle.rules.proofs.Cases.{rules, key, pool, at, e, s, m}
 use Rattle.rules.proofs.Worked.{three, four, goesOn, single}
+use Rattle.rules.proofs.CasesDead.{holed}
 use Rattle.rules.proofs.Apart.{none}
 use Rattle.rules.proofs.Sounds.{trap, trap-unsound, three-sound}
 
@@ -30,10 +32,11 @@ a = key 2 1
 abbrev b : Key
 b = key 1 1
 
-pub asked : map (asks goesOn) (lenSurject a ∷ inSameSurject a b ∷ getElement a ∷ getShared a ∷ setElement a 9 ∷ setShared a 9 ∷ check ∷ newRun 9 9 ∷ insert a 9 ∷ union a b ∷ remove a ∷ removeShared a ∷ list a ∷ drain a ∷ seal a ∷ clear ∷ exchange (a ∷ b ∷ []) (9 ∷ 9 ∷ []) ∷ drainAll ∷ [])
+pub asked : map (asks goesOn) (lenSurject a ∷ inSameSurject a b ∷ getElement a ∷ getShared a ∷ lookup a ∷ setElement a 9 ∷ setShared a 9 ∷ check ∷ newRun 9 9 ∷ insert a 9 ∷ union a b ∷ remove a ∷ removeShared a ∷ list a ∷ drain a ∷ seal a ∷ clear ∷ exchange (a ∷ b ∷ []) (9 ∷ 9 ∷ []) ∷ drainAll ∷ [])
     ++ map (asks single) (compress true ∷ compressWith true ∷ [])
     ≡ want (a ∷ []) false false false false 0
     ∷ want (a ∷ b ∷ []) false false false false 0
+    ∷ want (a ∷ []) false false false false 0
     ∷ want (a ∷ []) false false false false 0
     ∷ want (a ∷ []) false false false false 0
     ∷ want (a ∷ []) false false false false 0
@@ -56,15 +59,22 @@ pub asked : map (asks goesOn) (lenSurject a ∷ inSameSurject a b ∷ getElement
 unfolding rules
 asked = refl
 
-pub order : map (λ r. map numberOf (earlier r)) (Shape ∷ Unsound ∷ Dead ∷ SameClass ∷ Sealed ∷ NoShared ∷ NoElement ∷ Short ∷ Malformed ∷ [])
+-- a number, and that of a dead key with its cause
+abbrev n : ℕ → List ℕ
+n number = number ∷ []
+
+abbrev d : ℕ → List ℕ
+d cause = 3 ∷ cause ∷ []
+
+pub order : map (λ r. map (λ q. numberOf q ∷ valuesOf q []) (earlier r)) (Shape ∷ Unsound ∷ Dead FreeSlot ∷ SameClass ∷ Sealed ∷ NoShared ∷ NoElement ∷ Short ∷ Malformed ∷ [])
     ≡ []
-    ∷ (1 ∷ [])
-    ∷ (1 ∷ 2 ∷ [])
-    ∷ (1 ∷ 2 ∷ 3 ∷ [])
-    ∷ (1 ∷ 2 ∷ 3 ∷ 4 ∷ [])
-    ∷ (1 ∷ 2 ∷ 3 ∷ 4 ∷ 12 ∷ [])
-    ∷ (1 ∷ 2 ∷ 3 ∷ 4 ∷ 12 ∷ 6 ∷ [])
-    ∷ (1 ∷ 2 ∷ 3 ∷ 4 ∷ 12 ∷ 6 ∷ 5 ∷ [])
+    ∷ (n 1 ∷ [])
+    ∷ (n 1 ∷ n 2 ∷ [])
+    ∷ (n 1 ∷ n 2 ∷ d 1 ∷ d 2 ∷ d 3 ∷ [])
+    ∷ (n 1 ∷ n 2 ∷ d 1 ∷ d 2 ∷ d 3 ∷ n 4 ∷ [])
+    ∷ (n 1 ∷ n 2 ∷ d 1 ∷ d 2 ∷ d 3 ∷ n 4 ∷ n 12 ∷ [])
+    ∷ (n 1 ∷ n 2 ∷ d 1 ∷ d 2 ∷ d 3 ∷ n 4 ∷ n 12 ∷ n 6 ∷ [])
+    ∷ (n 1 ∷ n 2 ∷ d 1 ∷ d 2 ∷ d 3 ∷ n 4 ∷ n 12 ∷ n 6 ∷ n 5 ∷ [])
     ∷ []
     ∷ []
 order = refl
@@ -91,14 +101,17 @@ lent n = want [] false false false false n
 abbrev room : (elems shared : ℕ) → State
 room elems shared = at (pool elems 2 0 2) (pool shared 2 0 2) 1 (e 1 10 1 1 1 ++ e 1 20 2 2 2) (s 1 100 0 ++ m 1 200 1)
 
--- a key past the extent is not live
-live : Found → Bool
-live (lookup.Live x) = true
-live lookup.Dead = false
+-- a key past the extent is dead, and so is one of another generation
+past : Because three (key 4 1) NoSlot
+past = (inr (lit< tt), tt)
 
-dead : LiveKey three (key 4 1) → ⊥
-unfolding rules live
-dead l = false≢true (ap live l)
+other : Because three (key 1 2) OtherGeneration
+unfolding rules
+other = ((λ z. omega (arith, z)), ((neither (λ z. omega (arith, z)) (λ h. omega (arith, h))), ((λ z. omega (arith, z)), tt)))
+  where
+    neither : {P Q : Type 0} → (P → ⊥) → (Q → ⊥) → P ⊎ Q → ⊥
+    neither f g (inl p) = f p
+    neither f g (inr q) = g q
 
 pub shape : Sentence none [] nothing Shape × (Sentence three [] nothing Shape → ⊥)
 unfolding rules
@@ -107,18 +120,53 @@ shape = (refl, true≢false)
 pub unsound : Sentence trap [] nothing Unsound × (Sentence three [] nothing Unsound → ⊥)
 unsound = (trap-unsound, λ n. n three-sound)
 
--- one of several keys
-pub one-dead : Sentence three [] (keys (key 4 1 ∷ key 1 1 ∷ [])) Dead × Sentence three [] (keys (key 1 1 ∷ key 4 1 ∷ [])) Dead
-one-dead = (inl dead, inr (inl dead))
+-- why: slot 0, past the extent, free, another generation
+pub why : Why holed (key 0 5) NoSlot × Why holed (key 4 5) NoSlot × Why holed (key 2 5) FreeSlot × Why holed (key 1 6) OtherGeneration
+unfolding rules
+why = (inl refl, inr (lit< tt), refl, λ z. omega (arith, z))
 
-pub none-dead : (Sentence three [] nothing Dead → ⊥) × (Sentence three [] (keys (key 1 1 ∷ key 3 1 ∷ [])) Dead → ⊥)
+pub not-why : (Why holed (key 3 6) NoSlot → ⊥) × (Why holed (key 1 5) FreeSlot → ⊥) × (Why holed (key 1 5) OtherGeneration → ⊥)
+unfolding rules
+not-why = (go, (λ z. omega (arith, z)), λ n. n refl)
+  where
+    go : Why holed (key 3 6) NoSlot → ⊥
+    go (inl z) = omega (arith, z)
+    go (inr h) = omega (arith, h)
+
+pub sooner-ones : map (λ c. map causeNumber (sooner c)) (NoSlot ∷ FreeSlot ∷ OtherGeneration ∷ []) ≡ [] ∷ (1 ∷ []) ∷ (1 ∷ 2 ∷ []) ∷ []
+sooner-ones = refl
+
+-- not its own sentence, and a sooner one too
+pub not-because : (Because holed (key 1 5) OtherGeneration → ⊥) × (Because holed (key 0 5) FreeSlot → ⊥) × (Because holed (key 2 5) OtherGeneration → ⊥)
+unfolding rules
+not-because = ((λ b. b .0 refl), (λ b. b .1 .0 (inl refl)), λ b. b .1 .1 .0 refl)
+
+-- one of several keys, and of two that are dead the first
+pub one-dead : Sentence three [] (keys (key 4 1 ∷ key 1 1 ∷ [])) (Dead NoSlot) × Sentence three [] (keys (key 1 1 ∷ key 4 1 ∷ [])) (Dead NoSlot)
+unfolding rules
+one-dead = (inl past, inr (refl, inl past))
+
+pub first-dead : Sentence three [] (keys (key 4 1 ∷ key 1 2 ∷ [])) (Dead NoSlot) × Sentence three [] (keys (key 1 2 ∷ key 4 1 ∷ [])) (Dead OtherGeneration)
+first-dead = (inl past, inl other)
+
+-- not the second, nor a cause whose turn does not come, nor of keys that are live
+live : Found → Bool
+live (lookup.Live x) = true
+live (lookup.Dead cause) = false
+
+pub not-second : Sentence three [] (keys (key 4 1 ∷ key 1 2 ∷ [])) (Dead OtherGeneration) → ⊥
+unfolding rules live
+not-second (inl b) = b .1 .0 (inr (lit< tt))
+not-second (inr d) = false≢true (ap live (d .0))
+
+pub none-dead : (Sentence three [] nothing (Dead NoSlot) → ⊥) × (Sentence three [] (keys (key 1 1 ∷ key 3 1 ∷ [])) (Dead OtherGeneration) → ⊥)
 unfolding rules
 none-dead = ((λ n. n), go)
   where
-    go : Sentence three [] (keys (key 1 1 ∷ key 3 1 ∷ [])) Dead → ⊥
-    go (inl n) = n refl
-    go (inr (inl n)) = n refl
-    go (inr (inr n)) = n
+    go : Sentence three [] (keys (key 1 1 ∷ key 3 1 ∷ [])) (Dead OtherGeneration) → ⊥
+    go (inl b) = b .0 refl
+    go (inr (l, inl b)) = b .0 refl
+    go (inr (l, inr n)) = n .1
 
 -- two of three keys, whichever; and only of a call that wants them apart
 pub in-one : Sentence four [] (apart (key 1 1 ∷ key 3 1 ∷ key 4 1 ∷ [])) SameClass × Sentence four [] (apart (key 1 1 ∷ key 4 1 ∷ key 3 1 ∷ [])) SameClass × Sentence four [] (apart (key 4 1 ∷ key 1 1 ∷ key 3 1 ∷ [])) SameClass
@@ -178,19 +226,19 @@ unfolding rules
 given = ((trap-unsound, (true≢false, tt)), (refl, tt))
 
 -- not its own sentence, and an earlier one
-pub not-given : (Given three [] check Unsound → ⊥) × (Given none [] (lenSurject (key 1 1)) Dead → ⊥)
+pub not-given : (Given three [] check Unsound → ⊥) × (Given none [] (lenSurject (key 1 1)) (Dead NoSlot) → ⊥)
 unfolding rules
 not-given = ((λ g. g .0 three-sound), λ g. g .1 .0 refl)
 
 -- each sentence alone is in the way of acceptance
 pub not-accepted : (Accepted none [] check → ⊥) × (Accepted trap [] check → ⊥) × (Accepted three [] (lenSurject (key 4 1)) → ⊥) × (Accepted four [] (union (key 1 1) (key 3 1)) → ⊥)
 unfolding rules
-not-accepted = ((λ n. n .0 refl), (λ n. n .1 .0 trap-unsound), (λ n. n .1 .1 .0 (inl dead)), (λ n. n .1 .1 .1 .0 (tt, inl (inl refl))))
+not-accepted = ((λ n. n .0 refl), (λ n. n .1 .0 trap-unsound), (λ n. n .1 .1 .0 (inl past)), (λ n. n .1 .1 .1 .1 .1 .0 (tt, inl (inl refl))))
 
 pub not-accepted-slots : (Accepted (room 2 2) [] (insert (key 2 1) 9) → ⊥) × (Accepted (room 3 2) [] (newRun 9 9) → ⊥) × (Accepted (room 2 2) [] (insert (key 1 1) 9) → ⊥) × (Accepted three (replicate 5 0) (list (key 1 1)) → ⊥)
 unfolding rules
-not-accepted-slots = ((λ n. n .1 .1 .1 .1 .0 (tt, inl tt)), (λ n. n .1 .1 .1 .1 .1 .0 (tt, (refl, refl))), (λ n. n .1 .1 .1 .1 .1 .1 .0 (tt, (refl, refl))), (λ n. n .1 .1 .1 .1 .1 .1 .1 .0 (lit< tt)))
+not-accepted-slots = ((λ n. n .1 .1 .1 .1 .1 .1 .0 (tt, inl tt)), (λ n. n .1 .1 .1 .1 .1 .1 .1 .0 (tt, (refl, refl))), (λ n. n .1 .1 .1 .1 .1 .1 .1 .1 .0 (tt, (refl, refl))), (λ n. n .1 .1 .1 .1 .1 .1 .1 .1 .1 .0 (lit< tt)))
 
 pub accepted : Accepted three [] check
 unfolding rules
-accepted = (true≢false, ((λ n. n three-sound), ((λ n. n), ((λ h. h .0), ((λ h. h .0), ((λ h. h .0), ((λ h. h .0), ((λ h. omega (arith, h)), tt))))))))
+accepted = (true≢false, ((λ n. n three-sound), ((λ n. n), ((λ n. n), ((λ n. n), ((λ h. h .0), ((λ h. h .0), ((λ h. h .0), ((λ h. h .0), ((λ h. omega (arith, h)), tt))))))))))

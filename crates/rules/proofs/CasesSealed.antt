@@ -6,13 +6,14 @@ use mathlib.Core.List.{List, [], _∷_, _++_, map}
 use lib.ListN.{replicate}
 use Rattle.rules.specs.declared.Key.{Key}
 use Rattle.rules.specs.declared.Seal.the-variants as seals
+use Rattle.rules.specs.declared.Cause.the-variants.{OtherGeneration}
 use Rattle.rules.specs.declared.Refusal.the-variants.{Dead, Short, Sealed}
 use Rattle.rules.specs.Tables.{frameWidth, headerWidth, State}
 use Rattle.rules.specs.Refusals.{Said, Outcome}
 use Rattle.rules.specs.Calls.{Call, lenSurject, getShared, setElement, setShared, newRun, insert, union, remove, removeShared, list, drain, seal, drainAll, clear, exchange, compress, step, freshStep}
 use Rattle.rules.specs.Answers.{saidSeal}
 use Rattle.rules.specs.History.{History, noted, notedFresh, nothing, othersOf, runsBut, insertedRuns, joinedRuns, removedRuns, sorted, begunAt, ordered, renamed}
-use Rattle.rules.proofs.Cases.{rules, Case, _gives_, did, says, key, ok, refused, pool, at, e, s, m, r, zeros}
+use Rattle.rules.proofs.Cases.{rules, Case, _gives_, did, says, key, ok, refused, dead, pool, at, e, s, m, r, zeros}
 use Rattle.rules.proofs.Worked.{fresh43, one, three, four}
 
 -- one, three and four with the first run sealed, and four with the second
@@ -142,10 +143,10 @@ table =
     step four2 [] (union (key 4 1) (key 1 1)) gives refused 12 four2 [] ∷
     step three1 (replicate 9 9) (seal (key 3 1)) gives refused 12 three1 (replicate 9 9) ∷
     -- 3 and 4 before 12
-    step three1 [] (insert (key 1 2) 13) gives refused 3 three1 [] ∷
-    step three1 [] (union (key 1 1) (key 4 1)) gives refused 3 three1 [] ∷
-    step three1 [] (union (key 4 1) (key 1 1)) gives refused 3 three1 [] ∷
-    step three1 (replicate 9 9) (seal (key 4 1)) gives refused 3 three1 (replicate 9 9) ∷
+    step three1 [] (insert (key 1 2) 13) gives dead 3 three1 [] ∷
+    step three1 [] (union (key 1 1) (key 4 1)) gives dead 1 three1 [] ∷
+    step three1 [] (union (key 4 1) (key 1 1)) gives dead 1 three1 [] ∷
+    step three1 (replicate 9 9) (seal (key 4 1)) gives dead 1 three1 (replicate 9 9) ∷
     step three1 [] (union (key 1 1) (key 2 1)) gives refused 4 three1 [] ∷
     -- 12 before 5 and before 7
     step four1 [] (insert (key 1 1) 13) gives refused 12 four1 [] ∷
@@ -181,7 +182,7 @@ sealed = refl
 
 -- what the enum says
 pub spoken : map (λ (o : Outcome). o .said) (step three (replicate 9 0) (seal (key 2 1)) ∷ step three [] (seal (key 2 1)) ∷ step three1 [] (seal (key 2 1)) ∷ step three1 [] (seal (key 2 2)) ∷ [])
-    ≡ saidSeal (seals.Is 100 3) ∷ saidSeal (seals.Refused Short) ∷ saidSeal (seals.Refused Sealed) ∷ saidSeal (seals.Refused Dead) ∷ []
+    ≡ saidSeal (seals.Is 100 3) ∷ saidSeal (seals.Refused Short) ∷ saidSeal (seals.Refused Sealed) ∷ saidSeal (seals.Refused (Dead OtherGeneration)) ∷ []
 unfolding rules
 spoken = refl
 

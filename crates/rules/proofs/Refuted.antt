@@ -15,14 +15,14 @@ use Rattle.rules.specs.Refusals.{Outcome}
 use Rattle.rules.specs.Calls.{Call, getElement, newRun, union, AtDoor}
 use Rattle.rules.specs.History.{History, othersOf, nothing}
 use Rattle.rules.specs.Demand.{After, start, fresh, call, In, Agrees, Union, Demand3}
-use Rattle.rules.proofs.Cases.{rules, key, ok, refused, pool, at, e, s, m, zeros}
+use Rattle.rules.proofs.Cases.{rules, key, ok, refused, dead, pool, at, e, s, m, zeros}
 use Rattle.rules.proofs.Worked.{fresh43, one, three}
 use Rattle.rules.proofs.Histories.{told}
 
 -- what a lookup found, as a truth value; the slot of the second key
 live : Found → Bool
 live (lookup.Live x) = true
-live lookup.Dead = false
+live (lookup.Dead cause) = false
 
 abbrev second : List Key → ℕ
 second ks = getD (map (λ (k : Key). k .slot) ks) 1 0
@@ -223,5 +223,5 @@ fresh-refused a = fresh a 3 3
 pub call-accepted : After fresh43 nothing → AtDoor fresh43 [] (newRun 10 100) (ok (1 ∷ 1 ∷ []) one []) → After one alone
 call-accepted a d = call a [] (newRun 10 100) (ok (1 ∷ 1 ∷ []) one []) d
 
-pub call-refused : After one alone → AtDoor one [] (getElement (key 2 1)) (refused 3 one []) → After one alone
-call-refused a d = call a [] (getElement (key 2 1)) (refused 3 one []) d
+pub call-refused : After one alone → AtDoor one [] (getElement (key 2 1)) (dead 1 one []) → After one alone
+call-refused a d = call a [] (getElement (key 2 1)) (dead 1 one []) d

@@ -77,7 +77,7 @@ came-in later S = go (S .only later (key 1 1) (inl refl) (key 2 1) (inr (inl ref
 -- the mark has gone; the frame has gone
 live : Found → Bool
 live (lookup.Live x) = true
-live lookup.Dead = false
+live (lookup.Dead cause) = false
 
 pub mark-gone : Later one alone1 (key 1 1 ∷ []) → Kept → ⊥
 unfolding rules othersOf

@@ -8,6 +8,7 @@ pub mod Marked
 pub mod Working
 pub mod Links
 pub mod Tests
+pub mod Causes
 pub mod Keys
 pub mod Places
 pub mod Past

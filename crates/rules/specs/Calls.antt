@@ -15,9 +15,9 @@ use Rattle.rules.specs.Seals
 use Rattle.rules.specs.Exchange
 use Rattle.rules.specs.Compress
 
--- Rules 1 and 4 to 14, and Tickets 1 and 3
+-- Rules 1 and 4 to 14, Ticket 1 and Tickets 5 and 3
 pub data Call : Type 0 where
-  lenSurject getElement getShared remove removeShared list drain seal : Key → Call
+  lenSurject getElement getShared lookup remove removeShared list drain seal : Key → Call
   inSameSurject union : (j k : Key) → Call
   setElement insert : Key → (payload : ℕ) → Call
   setShared : Key → (value : ℕ) → Call
@@ -31,6 +31,7 @@ ruling st lent (lenSurject k) = Reads.lenSurject st k
 ruling st lent (inSameSurject j k) = Reads.inSameSurject st j k
 ruling st lent (getElement k) = Reads.getElement st k
 ruling st lent (getShared k) = Reads.getShared st k
+ruling st lent (lookup k) = Reads.lookup st k
 ruling st lent (setElement k payload) = Reads.setElement st k payload
 ruling st lent (setShared k value) = Reads.setShared st k value
 ruling st lent check = Reads.check st

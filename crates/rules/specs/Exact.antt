@@ -1,22 +1,24 @@
 -- Numbers given on refusal, once more and apart from the rules: the sentence of each number over any call. The rules give it exactly then (proofs/Exactly).
 use Prim.Native.Nat.{ℕ, _*_, _≤_, _<_}
 use mathlib.Core.Path.{_≡_}
-use mathlib.Core.Logic.{_⊎_}
+use mathlib.Core.Logic.{_≢_, _⊎_}
 use mathlib.Core.Bool.{Bool, true, false}
-use mathlib.Core.List.{List, [], _∷_}
+use mathlib.Core.List.{List, [], _∷_, _++_}
 use lib.Dec.{T}
 use lib.ListN.{length}
 use Rattle.rules.specs.declared.Pool.{Pool}
 use Rattle.rules.specs.declared.Key.{Key}
+use Rattle.rules.specs.declared.Cause.{Cause}
+use Rattle.rules.specs.declared.Cause.the-variants.{NoSlot, FreeSlot, OtherGeneration}
 use Rattle.rules.specs.declared.Refusal.{Refusal}
 use Rattle.rules.specs.declared.Refusal.the-variants.{Shape, Unsound, Dead, SameClass, NoElement, NoShared, Short, Malformed, Sealed}
-use Rattle.rules.specs.Tables.{frameWidth, classOf, State, Side, isFree, LiveKey, sizeAt, isSealed}
+use Rattle.rules.specs.Tables.{frameWidth, generationOf, classOf, State, Side, isFree, LiveKey, sizeAt, isSealed}
 use Rattle.rules.specs.Sound.{Sound}
 use Rattle.rules.specs.Refusals.{shaped}
 use Rattle.rules.specs.Drains.{keyWidth, recordWidth}
 use Rattle.rules.specs.Seals.{sealWidth}
 use Rattle.rules.specs.Compress.{pairWidth}
-use Rattle.rules.specs.Calls.{Call, lenSurject, inSameSurject, getElement, getShared, setElement, setShared, check, newRun, insert, union, remove, removeShared, list, drain, seal, drainAll, clear, exchange, compress, compressWith}
+use Rattle.rules.specs.Calls.{Call, lenSurject, inSameSurject, getElement, getShared, lookup, setElement, setShared, check, newRun, insert, union, remove, removeShared, list, drain, seal, drainAll, clear, exchange, compress, compressWith}
 
 -- one of these, two of these, none of these
 abbrev pub Some : {A : Type 0} → (A → Type 0) → List A → Type 0
@@ -68,6 +70,7 @@ asks st (lenSurject k) = onKeys (k ∷ [])
 asks st (inSameSurject j k) = onKeys (j ∷ k ∷ [])
 asks st (getElement k) = onKeys (k ∷ [])
 asks st (getShared k) = onKeys (k ∷ [])
+asks st (lookup k) = onKeys (k ∷ [])
 asks st (setElement k payload) = onKeys (k ∷ [])
 asks st (setShared k value) = onKeys (k ∷ [])
 asks st check = onKeys []
@@ -85,6 +88,25 @@ asks st (exchange keys values) = onKeysApart keys
 asks st (compress reset) = writing [] (st .head .elems .capacity * frameWidth)
 asks st (compressWith reset) = writing [] (st .head .elems .live * pairWidth)
 
+-- Ticket 5: the sentence of each cause, and the causes tested before it
+abbrev pub Why : State → Key → Cause → Type 0
+Why st k NoSlot = (k .slot ≡ 0) ⊎ (st .head .elems .extent < k .slot)
+Why st k FreeSlot = generationOf (st .elems) (k .slot) ≡ 0
+Why st k OtherGeneration = generationOf (st .elems) (k .slot) ≢ k .generation
+
+abbrev pub sooner : Cause → List Cause
+sooner NoSlot = []
+sooner FreeSlot = NoSlot ∷ []
+sooner OtherGeneration = NoSlot ∷ FreeSlot ∷ []
+
+abbrev pub Because : State → Key → Cause → Type 0
+Because st k c = Why st k c × None (Why st k) (sooner c)
+
+-- 3: that is why the first key that is not live is dead
+abbrev pub FirstDead : State → Cause → List Key → Type 0
+FirstDead st c [] = ⊥
+FirstDead st c (k ∷ ks) = Because st k c ⊎ (LiveKey st k × FirstDead st c ks)
+
 -- 5 and 6: the free root is 0 and extent equals capacity
 abbrev pub Full : Pool → Type 0
 Full p = (p .root ≡ 0) × (p .extent ≡ p .capacity)
@@ -97,11 +119,11 @@ NoneFree t = (s : ℕ) → T (isFree t s) ⊎ ((t .pool .extent < s) × (s ≤ t
 abbrev pub OneClass : State → (j k : Key) → Type 0
 OneClass st j k = classOf (st .elems) (j .slot) ≡ classOf (st .elems) (k .slot)
 
--- Refusals 1 to 8, the table; Ticket 1: 12
+-- Refusals 1 to 8, the table; Ticket 1: 12; Ticket 5: the causes of 3
 abbrev pub Sentence : State → (lent : List ℕ) → Asks → Refusal → Type 0
 Sentence st lent a Shape = shaped st ≡ false
 Sentence st lent a Unsound = Sound st → ⊥
-Sentence st lent a Dead = Some (λ k. LiveKey st k → ⊥) (a .keys)
+Sentence st lent a (Dead cause) = FirstDead st cause (a .keys)
 Sentence st lent a SameClass = T (a .apart) × Two (OneClass st) (a .keys)
 Sentence st lent a NoElement = T (a .element) × Full (st .head .elems)
 Sentence st lent a NoShared = T (a .shared) × Full (st .head .shared)
@@ -110,15 +132,18 @@ Sentence st lent a Malformed = ⊥
 Sentence st lent a Sealed = T (a .unsealed) × Some (λ k. T (isSealed st (k .slot))) (a .keys)
 
 -- Refusals, order: 1, 2, 3, 4, 12 (Ticket 1), 6, 5, 7; 8 is the script program's alone
+abbrev pub untilDead : List Refusal
+untilDead = Shape ∷ Unsound ∷ Dead NoSlot ∷ Dead FreeSlot ∷ Dead OtherGeneration ∷ []
+
 abbrev pub earlier : Refusal → List Refusal
 earlier Shape = []
 earlier Unsound = Shape ∷ []
-earlier Dead = Shape ∷ Unsound ∷ []
-earlier SameClass = Shape ∷ Unsound ∷ Dead ∷ []
-earlier Sealed = Shape ∷ Unsound ∷ Dead ∷ SameClass ∷ []
-earlier NoShared = Shape ∷ Unsound ∷ Dead ∷ SameClass ∷ Sealed ∷ []
-earlier NoElement = Shape ∷ Unsound ∷ Dead ∷ SameClass ∷ Sealed ∷ NoShared ∷ []
-earlier Short = Shape ∷ Unsound ∷ Dead ∷ SameClass ∷ Sealed ∷ NoShared ∷ NoElement ∷ []
+earlier (Dead cause) = Shape ∷ Unsound ∷ []
+earlier SameClass = untilDead
+earlier Sealed = untilDead ++ SameClass ∷ []
+earlier NoShared = untilDead ++ SameClass ∷ Sealed ∷ []
+earlier NoElement = untilDead ++ SameClass ∷ Sealed ∷ NoShared ∷ []
+earlier Short = untilDead ++ SameClass ∷ Sealed ∷ NoShared ∷ NoElement ∷ []
 earlier Malformed = []
 
 -- a number's turn comes, if the sentence of no earlier number holds; and it is given, if its own then does
@@ -130,4 +155,4 @@ Given st lent c r = Sentence st lent (asks st c) r × Turn st lent c r
 
 -- and a call is accepted, if no sentence holds
 abbrev pub Accepted : State → (lent : List ℕ) → Call → Type 0
-Accepted st lent c = None (Sentence st lent (asks st c)) (Shape ∷ Unsound ∷ Dead ∷ SameClass ∷ Sealed ∷ NoShared ∷ NoElement ∷ Short ∷ [])
+Accepted st lent c = None (Sentence st lent (asks st c)) (untilDead ++ SameClass ∷ Sealed ∷ NoShared ∷ NoElement ∷ Short ∷ [])

@@ -1,16 +1,18 @@
 -- Tables and head: slots and their fields, the state, and when a slot or a key is live.
 use Prim.Native.Nat.{ℕ, zero, suc, _+_, _*_}
 use mathlib.Core.Path.{_≡_}
-use mathlib.Core.Bool.{Bool, _&&_, not}
+use mathlib.Core.Bool.{Bool, _&&_, _||_, not}
 use mathlib.Core.List.{List}
 use lib.ListN.{getD, set}
 use lib.Seq.{sets}
 use Rattle.rules.specs.declared.Pool.{Pool}
 use Rattle.rules.specs.declared.Head.{Head}
 use Rattle.rules.specs.declared.Key.{Key}
+use Rattle.rules.specs.declared.Cause.{Cause}
+use Rattle.rules.specs.declared.Cause.the-variants.{NoSlot, FreeSlot, OtherGeneration}
 use Rattle.rules.specs.declared.Found.{Found}
 use Rattle.rules.specs.declared.Found.the-variants as lookup
-use Rattle.rules.specs.Notation.{if_then_else_, _==_, _≤?_}
+use Rattle.rules.specs.Notation.{if_then_else_, _==_, _≤?_, _<?_}
 
 -- Tables: the highest capacity; Tables 3: the last generation
 abbrev pub mostSlots : ℕ
@@ -120,12 +122,19 @@ isFree t s = (1 ≤? s) && (s ≤? t .pool .extent) && (fieldOf t (t .used) s ==
 unfoldable pub isLive : Side → (slot : ℕ) → Bool
 isLive t s = (1 ≤? s) && (s ≤? t .pool .extent) && not (fieldOf t (t .used) s == 0)
 
+-- Ticket 5: why a key that is not live is dead, tested in this order
+unfoldable pub cause : State → Key → Cause
+cause st k =
+    if (k .slot == 0) || (st .head .elems .extent <? k .slot) then NoSlot else
+    if isFree (elemSide st) (k .slot) then FreeSlot else
+    OtherGeneration
+
 -- Tables 4: a key is looked up, and is live if it is found
 unfoldable pub found : State → Key → Found
 found st k =
     if isLive (elemSide st) (k .slot) && (generationOf (st .elems) (k .slot) == k .generation)
     then lookup.Live (k .slot)
-    else lookup.Dead
+    else lookup.Dead (cause st k)
 
 abbrev pub LiveKey : State → Key → Type 0
 LiveKey st k = found st k ≡ lookup.Live (k .slot)

@@ -199,11 +199,18 @@ pub struct Key {
     pub generation: u64,
 }
 
-// Numbers given on refusal, 1 to 8 in this order, and 12.
+// Ticket 5: why a key is dead, 1 to 3 in this order.
+pub enum Cause {
+    NoSlot,
+    FreeSlot,
+    OtherGeneration,
+}
+
+// Numbers given on refusal, 1 to 8 in this order, and 12; 3 carries its cause.
 pub enum Refusal {
     Shape,
     Unsound,
-    Dead,
+    Dead(Cause),
     SameClass,
     NoElement,
     NoShared,
@@ -212,13 +219,13 @@ pub enum Refusal {
     Sealed,
 }
 
-// What looking up a key finds: its slot, or nothing live.
+// What looking up a key finds: its slot, or why it is dead.
 pub enum Found {
     Live(u64),
-    Dead,
+    Dead(Cause),
 }
 
-// The answer of fresh, the check, clear and compression.
+// The answer of fresh, the check, lookup, clear and compression.
 pub enum Done {
     Done,
     Refused(Refusal),

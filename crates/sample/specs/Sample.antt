@@ -30,10 +30,10 @@ abbrev pub Listed : (at : ℕ) → (values sample : List ℕ) → Type 0
 Listed at [] sample = Unit
 Listed at (v ∷ vs) sample = (v ≡ answerAt sample at) × Listed (at + 1) vs sample
 
--- the Rust said the same
+-- the Rust said the same; of a refusal, the number, since it tells no cause
 pub record Agrees (said : Said) (sample : List ℕ) : Type 0 where
   pub number : said .number ≡ refusalOf sample
-  pub values : Listed 0 (said .values) sample
+  pub values : said .number ≡ 0 → Listed 0 (said .values) sample
 
 -- removal: the payload, then 0 and 0 where the run goes on, or 1 and its value
 abbrev pub restAnswers : Rest → List ℕ

@@ -9,6 +9,7 @@ use lib.ListN.{length}
 use lib.Seq.{sets}
 use Rattle.rules.specs.declared.Key.{Key}
 use Rattle.rules.specs.declared.Found.the-variants as lookup
+use Rattle.rules.specs.declared.Cause.{Cause}
 use Rattle.rules.specs.declared.Refusal.the-variants.{Dead, Short, Sealed}
 use Rattle.rules.specs.Tables.{headerWidth, headerAt, put, classOf, valueOf, State, withShared, found, sizeAt, isSealed}
 use Rattle.rules.specs.Refusals.{outcome, saidAccepted, refuse}
@@ -21,7 +22,7 @@ use Rattle.rings.proofs.Listing.{places-long}
 use Rattle.seals.specs.Answered.{framePlace}
 
 module _ (st : State) (lent : List ℕ) (k : Key) where
-  pub seal-3 : found st k ≡ lookup.Dead → outcome st lent (refuse Dead) ≡ step st lent (calls.seal k)
+  pub seal-3 : {cause : Cause} → found st k ≡ lookup.Dead cause → outcome st lent (refuse (Dead cause)) ≡ step st lent (calls.seal k)
   unfolding seal
   seal-3 p = simp p
 

@@ -63,8 +63,9 @@ pub fn seal(head: Head, elems: &[u64], shared: &mut [u64], key: Key, out: &mut [
     requires { ⌜ Ready (stateOf head (now elems) (now shared)) ⌝ }
     ensures { λ r. ⌜ leaves head (now (elems .entry)) (now (shared .exit)) (now (out .exit)) (saidSeal r) ≡ step (stateOf head (now (elems .entry)) (now (shared .entry))) (now (out .entry)) (calls.seal key) ⌝ }
 {
-    let Found::Live(x) = slots::find(head, elems, key) else {
-        return Seal::Refused(Refusal::Dead);
+    let x = match slots::find(head, elems, key) {
+        Found::Live(x) => x,
+        Found::Dead(cause) => return Seal::Refused(Refusal::Dead(cause)),
     };
     if slots::is_sealed(head, elems, shared, x) {
         return Seal::Refused(Refusal::Sealed);

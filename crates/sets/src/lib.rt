@@ -22,8 +22,9 @@ pub fn set(head: Head, elems: &mut [u64], shared: &[u64], key: Key, payload: u64
     requires { ⌜ Ready (stateOf head (now elems) (now shared)) ⌝ }
     ensures { λ r. ⌜ leaves head (now (elems .exit)) (now (shared .entry)) [] (saidNumber r false) ≡ step (stateOf head (now (elems .entry)) (now (shared .entry))) [] (setElement key payload) ⌝ }
 {
-    let Found::Live(x) = slots::find(head, elems, key) else {
-        return Number::Refused(Refusal::Dead);
+    let x = match slots::find(head, elems, key) {
+        Found::Live(x) => x,
+        Found::Dead(cause) => return Number::Refused(Refusal::Dead(cause)),
     };
     let old = slots::get(elems, FRAME, PAYLOAD, x);
     slots::put(elems, FRAME, x, PAYLOAD, payload);
@@ -35,8 +36,9 @@ pub fn set_shared(head: Head, elems: &[u64], shared: &mut [u64], key: Key, value
     requires { ⌜ Ready (stateOf head (now elems) (now shared)) ⌝ }
     ensures { λ r. ⌜ leaves head (now (elems .entry)) (now (shared .exit)) [] (saidNumber r false) ≡ step (stateOf head (now (elems .entry)) (now (shared .entry))) [] (setShared key value) ⌝ }
 {
-    let Found::Live(x) = slots::find(head, elems, key) else {
-        return Number::Refused(Refusal::Dead);
+    let x = match slots::find(head, elems, key) {
+        Found::Live(x) => x,
+        Found::Dead(cause) => return Number::Refused(Refusal::Dead(cause)),
     };
     let class = slots::get(elems, FRAME, CLASS, x);
     let old = slots::get(shared, HEADER, VALUE, class);

@@ -1,6 +1,7 @@
 // The slots of the lent tables: leaves, rows, taking and freeing, lookup and ring links (Modules 1 to 3).
 use rules::CLASS;
 use rules::COUNT;
+use rules::Cause;
 use rules::FRAME;
 use rules::Found;
 use rules::GENERATION;
@@ -113,26 +114,26 @@ pub fn free_header(head: Head, shared: &mut [u64], slot: u64) -> Head
     head.push_shared(slot)
 }
 
-// Tables 4: a key is looked up.
+// Tables 4 and Ticket 5: a key is looked up.
 pub fn find(head: Head, elems: &[u64], key: Key) -> Found
     requires { ⌜ head .elems .extent * frameWidth ≤ length (now elems) ⌝ }
     ensures { λ r. ⌜ ((s : List ℕ) → Looks (stateOf head (now (elems .entry)) s) key r) ⌝ }
 {
     let slot = key.slot;
     if slot == 0 {
-        return Found::Dead;
+        return Found::Dead(Cause::NoSlot);
     }
     if head.elems.extent < slot {
-        return Found::Dead;
+        return Found::Dead(Cause::NoSlot);
     }
     let generation = get(elems, FRAME, GENERATION, slot);
     if generation == 0 {
-        return Found::Dead;
+        return Found::Dead(Cause::FreeSlot);
     }
     if generation == key.generation {
         return Found::Live(slot);
     }
-    Found::Dead
+    Found::Dead(Cause::OtherGeneration)
 }
 
 // Ticket 1: the run of the frame in a live slot is sealed.

@@ -4,14 +4,15 @@ ghost use mathlib.Core.Path.{_≡_};
 ghost use mathlib.Core.Bool.{false};
 ghost use mathlib.Core.List.{[], _++_};
 ghost use lib.ListN.{length, take};
-ghost use Rattle.rules.specs.Refusals.{numberOf};
+ghost use Rattle.rules.specs.Refusals.{numberOf, valuesOf};
 ghost use Rattle.rules.specs.Answers.{saidNumber, saidInserted, saidJoined, saidRemoved};
 ghost use Rattle.rules.specs.Script.{bytes, decimal, keyText, unionText, ringText, removeText, refusedText};
 ghost use Rattle.told.specs.Put.{Put};
-ghost use Rattle.told.specs.Texts.{spaced, textOf, restText, Places};
+ghost use Rattle.told.specs.Texts.{causeOrNone, spaced, textOf, restText, Places};
 ghost use Rattle.told.specs.Told.{Told};
 use crate::text::put_decimal;
 use crate::text::put_text;
+use numbers::answers::cause_of;
 use numbers::answers::number_of;
 use rules::Head;
 use rules::HeadInserted;
@@ -25,13 +26,28 @@ use rules::Refusal;
 use rules::Removed;
 use rules::Rest;
 
+// Ticket 5: ` cause C`, a digit, for a refusal that carries one.
+fn put_cause(out: &mut [u8], at: usize, cause: u64) -> usize
+    requires { ⌜ (at + 8 ≤ length (now out)) × (cause ≤ 3) ⌝ }
+    ensures { λ r. ⌜ Put (now (out .entry)) at (causeOrNone cause) (now (out .exit)) r ⌝ }
+    ensures { λ r. ⌜ r ≤ at + 8 ⌝ }
+{
+    if cause == 0 {
+        return at;
+    }
+    let digit = put_text(out, at, b" cause ");
+    out[digit] = 48 + cause as u8;
+    digit + 1
+}
+
 pub fn put_refusal(out: &mut [u8], at: usize, refusal: Refusal) -> usize
     requires { ⌜ at + 28 ≤ length (now out) ⌝ }
-    ensures { λ r. ⌜ Put (now (out .entry)) at (refusedText (numberOf refusal)) (now (out .exit)) r ⌝ }
+    ensures { λ r. ⌜ Put (now (out .entry)) at (refusedText (numberOf refusal) (valuesOf refusal [])) (now (out .exit)) r ⌝ }
     ensures { λ r. ⌜ r ≤ at + 28 ⌝ }
 {
     let number = put_text(out, at, b"refused ");
-    put_decimal(out, number, number_of(refusal))
+    let end = put_decimal(out, number, number_of(refusal));
+    put_cause(out, end, cause_of(refusal))
 }
 
 fn put_key(out: &mut [u8], at: usize, key: Key) -> usize

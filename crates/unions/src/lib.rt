@@ -111,17 +111,23 @@ pub fn union(head: Head, elems: &mut [u64], shared: &mut [u64], j: Key, k: Key) 
     requires { ⌜ Ready (stateOf head (now elems) (now shared)) ⌝ }
     ensures { λ r. ⌜ afterJoined r (now (elems .exit)) (now (shared .exit)) [] ≡ step (stateOf head (now (elems .entry)) (now (shared .entry))) [] (union j k) ⌝ }
 {
-    let Found::Live(x) = slots::find(head, elems, j) else {
-        return HeadJoined {
-            head,
-            answer: Joined::Refused(Refusal::Dead),
-        };
+    let x = match slots::find(head, elems, j) {
+        Found::Live(x) => x,
+        Found::Dead(cause) => {
+            return HeadJoined {
+                head,
+                answer: Joined::Refused(Refusal::Dead(cause)),
+            };
+        }
     };
-    let Found::Live(y) = slots::find(head, elems, k) else {
-        return HeadJoined {
-            head,
-            answer: Joined::Refused(Refusal::Dead),
-        };
+    let y = match slots::find(head, elems, k) {
+        Found::Live(y) => y,
+        Found::Dead(cause) => {
+            return HeadJoined {
+                head,
+                answer: Joined::Refused(Refusal::Dead(cause)),
+            };
+        }
     };
     union_at(head, elems, shared, x, y, j, k)
 }

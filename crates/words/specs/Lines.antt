@@ -22,7 +22,7 @@ use Rattle.words.specs.Words.{wordsAt}
 abbrev pub answered : State → (print : Outcome → List ℕ) → Call → Reply
 answered st print call =
     let o = step st (replicate (capacity * keyWidth) 0) call in
-    record { state = o .state; printed = if o .said .number == 0 then print o else refusedText (o .said .number) }
+    record { state = o .state; printed = if o .said .number == 0 then print o else refusedText (o .said .number) (o .said .values) }
 
 abbrev pub replyOf : State → Line → Reply
 replyOf st (NewRun payload value) = answered st keyText (newRun payload value)

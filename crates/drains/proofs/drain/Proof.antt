@@ -13,14 +13,14 @@ find-requires c κs = let s = safe _ (c .before .before .before .before .pre) in
 enum-known-x : tie.Need-enum-known-x
 enum-known-x c = search needs
 
-enum-told : tie.Need-enum-told
-enum-told c = search needs
+enum-known-cause : tie.Need-enum-known-cause
+enum-known-cause c = search needs
 
 same-length : tie.Need-same-length
 same-length c = search needs
 
 returns : tie.Need-returns
-returns c = drain-3 _ _ _ (c .before .before .find .ensures _ .same ∙ c .enum-told .given .1)
+returns c = drain-3 _ _ _ (c .before .before .before .find .ensures _ .same ∙ c .before .cause .given .1)
 
 size-at-requires : tie.Need-size-at-requires
 size-at-requires c κs = on-live _ _ _ _ (c .before .before .before .before .before .before .before .before .before .before .pre) (c .before .before .before .before .before .find .ensures _) (c .before .before .before .x .given .1)
@@ -59,7 +59,7 @@ drain-spec =
     (tie.spec
     find-requires
     enum-known-x
-    enum-told
+    enum-known-cause
     same-length
     returns
     size-at-requires

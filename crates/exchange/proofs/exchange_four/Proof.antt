@@ -14,15 +14,15 @@ find-requires c κs = let s = safe _ (c .before .before .pre) in search needs
 enum-known-w : tie.Need-enum-known-w
 enum-known-w c = search needs
 
-enum-told : tie.Need-enum-told
-enum-told c = search needs
+enum-known-cause : tie.Need-enum-known-cause
+enum-known-cause c = search needs
 
 refused-requires : tie.Need-refused-requires
 refused-requires c κs = search needs
 
 returns : tie.Need-returns
 unfolding exchange
-returns c = let s = c .before .before .before .before .before .before .args .shared .now in rw ((c .before .before .before .find .ensures s .same) ∙ (c .before .enum-told .given .1), (c .refused .ensures))
+returns c = let s = c .before .before .before .before .before .before .before .args .shared .now in rw ((c .before .before .before .before .find .ensures s .same) ∙ (c .before .before .cause .given .1), (c .refused .ensures))
 
 find-requires-2 : tie.Need-find-requires-2
 find-requires-2 c κs = let s = safe _ (c .before .before .before .before .before .before .pre) in search needs
@@ -30,15 +30,15 @@ find-requires-2 c κs = let s = safe _ (c .before .before .before .before .befor
 enum-known-x : tie.Need-enum-known-x
 enum-known-x c = search needs
 
-enum-told-2 : tie.Need-enum-told-2
-enum-told-2 c = search needs
+enum-known-cause-2 : tie.Need-enum-known-cause-2
+enum-known-cause-2 c = search needs
 
 refused-requires-2 : tie.Need-refused-requires-2
 refused-requires-2 c κs = search needs
 
 returns-2 : tie.Need-returns-2
 unfolding exchange
-returns-2 c = let s = c .before .before .before .before .before .before .before .before .before .before .args .shared .now in rw ((c .before .before .before .before .before .before .before .find .ensures s .same) ∙ (c .before .before .before .before .before .w .given .1), (c .before .before .before .find2 .ensures s .same) ∙ (c .before .enum-told2 .given .1), (c .refused2 .ensures))
+returns-2 c = let s = c .before .before .before .before .before .before .before .before .before .before .before .args .shared .now in rw ((c .before .before .before .before .before .before .before .before .find .ensures s .same) ∙ (c .before .before .before .before .before .before .w .given .1), (c .before .before .before .before .find2 .ensures s .same) ∙ (c .before .before .cause2 .given .1), (c .refused2 .ensures))
 
 find-requires-3 : tie.Need-find-requires-3
 find-requires-3 c κs = let s = safe _ (c .before .before .before .before .before .before .before .before .before .before .pre) in search needs
@@ -46,15 +46,15 @@ find-requires-3 c κs = let s = safe _ (c .before .before .before .before .befor
 enum-known-y : tie.Need-enum-known-y
 enum-known-y c = search needs
 
-enum-told-3 : tie.Need-enum-told-3
-enum-told-3 c = search needs
+enum-known-cause-3 : tie.Need-enum-known-cause-3
+enum-known-cause-3 c = search needs
 
 refused-requires-3 : tie.Need-refused-requires-3
 refused-requires-3 c κs = search needs
 
 returns-3 : tie.Need-returns-3
 unfolding exchange
-returns-3 c = let s = c .before .before .before .before .before .before .before .before .before .before .before .before .before .before .args .shared .now in rw ((c .before .before .before .before .before .before .before .before .before .before .before .find .ensures s .same) ∙ (c .before .before .before .before .before .before .before .before .before .w .given .1), (c .before .before .before .before .before .before .before .find2 .ensures s .same) ∙ (c .before .before .before .before .before .x .given .1), (c .before .before .before .find3 .ensures s .same) ∙ (c .before .enum-told3 .given .1), (c .refused3 .ensures))
+returns-3 c = let s = c .before .before .before .before .before .before .before .before .before .before .before .before .before .before .before .args .shared .now in rw ((c .before .before .before .before .before .before .before .before .before .before .before .before .find .ensures s .same) ∙ (c .before .before .before .before .before .before .before .before .before .before .w .given .1), (c .before .before .before .before .before .before .before .before .find2 .ensures s .same) ∙ (c .before .before .before .before .before .before .x .given .1), (c .before .before .before .before .find3 .ensures s .same) ∙ (c .before .before .cause3 .given .1), (c .refused3 .ensures))
 
 find-requires-4 : tie.Need-find-requires-4
 find-requires-4 c κs = let s = safe _ (c .before .before .before .before .before .before .before .before .before .before .before .before .before .before .pre) in search needs
@@ -62,15 +62,15 @@ find-requires-4 c κs = let s = safe _ (c .before .before .before .before .befor
 enum-known-z : tie.Need-enum-known-z
 enum-known-z c = search needs
 
-enum-told-4 : tie.Need-enum-told-4
-enum-told-4 c = search needs
+enum-known-cause-4 : tie.Need-enum-known-cause-4
+enum-known-cause-4 c = search needs
 
 refused-requires-4 : tie.Need-refused-requires-4
 refused-requires-4 c κs = search needs
 
 returns-4 : tie.Need-returns-4
 unfolding exchange
-returns-4 c = let s = c .before .before .before .before .before .before .before .before .before .before .before .before .before .before .before .before .before .before .args .shared .now in rw ((c .before .before .before .before .before .before .before .before .before .before .before .before .before .before .before .find .ensures s .same) ∙ (c .before .before .before .before .before .before .before .before .before .before .before .before .before .w .given .1), (c .before .before .before .before .before .before .before .before .before .before .before .find2 .ensures s .same) ∙ (c .before .before .before .before .before .before .before .before .before .x .given .1), (c .before .before .before .before .before .before .before .find3 .ensures s .same) ∙ (c .before .before .before .before .before .y .given .1), (c .before .before .before .find4 .ensures s .same) ∙ (c .before .enum-told4 .given .1), (c .refused4 .ensures))
+returns-4 c = let s = c .before .before .before .before .before .before .before .before .before .before .before .before .before .before .before .before .before .before .before .args .shared .now in rw ((c .before .before .before .before .before .before .before .before .before .before .before .before .before .before .before .before .find .ensures s .same) ∙ (c .before .before .before .before .before .before .before .before .before .before .before .before .before .before .w .given .1), (c .before .before .before .before .before .before .before .before .before .before .before .before .find2 .ensures s .same) ∙ (c .before .before .before .before .before .before .before .before .before .before .x .given .1), (c .before .before .before .before .before .before .before .before .find3 .ensures s .same) ∙ (c .before .before .before .before .before .before .y .given .1), (c .before .before .before .before .find4 .ensures s .same) ∙ (c .before .before .cause4 .given .1), (c .refused4 .ensures))
 
 exchange-at-requires : tie.Need-exchange-at-requires
 exchange-at-requires c κs = let p = c .before .before .before .before .before .before .before .before .before .before .before .before .before .before .before .before .before .before .before .pre in
@@ -95,22 +95,22 @@ exchange-four-spec =
     (tie.spec
     find-requires
     enum-known-w
-    enum-told
+    enum-known-cause
     refused-requires
     returns
     find-requires-2
     enum-known-x
-    enum-told-2
+    enum-known-cause-2
     refused-requires-2
     returns-2
     find-requires-3
     enum-known-y
-    enum-told-3
+    enum-known-cause-3
     refused-requires-3
     returns-3
     find-requires-4
     enum-known-z
-    enum-told-4
+    enum-known-cause-4
     refused-requires-4
     returns-4
     exchange-at-requires

@@ -12,15 +12,15 @@ find-requires c κs = let s = safe _ (c .before .before .before .pre) in search 
 enum-known-x : tie.Need-enum-known-x
 enum-known-x c = search needs
 
-enum-told : tie.Need-enum-told
-enum-told c = search needs
+enum-known-cause : tie.Need-enum-known-cause
+enum-known-cause c = search needs
 
 same-length : tie.Need-same-length
 same-length c = search needs
 
 returns : tie.Need-returns
 unfolding insert
-returns c = let s = c .before .before .before .before .before .before .args .shared .now in rw ((c .before .before .find .ensures s .same) ∙ (c .enum-told .given .1))
+returns c = let s = c .before .before .before .before .before .before .before .args .shared .now in rw ((c .before .before .before .find .ensures s .same) ∙ (c .before .cause .given .1))
 
 is-sealed-requires : tie.Need-is-sealed-requires
 is-sealed-requires c κs = on-live _ _ _ _ (c .before .before .before .before .before .before .before .before .before .pre) (c .before .before .before .before .before .find .ensures _) (c .before .before .before .x .given .1)
@@ -70,7 +70,7 @@ insert-spec =
     (tie.spec
     find-requires
     enum-known-x
-    enum-told
+    enum-known-cause
     same-length
     returns
     is-sealed-requires

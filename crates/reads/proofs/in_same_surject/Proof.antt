@@ -14,12 +14,12 @@ find-requires c κs = let s = safe _ (c .before .before .pre) in search needs
 enum-known-x : tie.Need-enum-known-x
 enum-known-x c = search needs
 
-enum-told : tie.Need-enum-told
-enum-told c = search needs
+enum-known-cause : tie.Need-enum-known-cause
+enum-known-cause c = search needs
 
 returns : tie.Need-returns
 unfolding inSameSurject
-returns c = let s = c .before .before .before .before .before .args .shared .now in rw ((c .before .before .find .ensures s .same) ∙ (c .enum-told .given .1))
+returns c = let s = c .before .before .before .before .before .before .args .shared .now in rw ((c .before .before .before .find .ensures s .same) ∙ (c .before .cause .given .1))
 
 find-requires-2 : tie.Need-find-requires-2
 find-requires-2 c κs = let s = safe _ (c .before .before .before .before .before .before .pre) in search needs
@@ -27,12 +27,12 @@ find-requires-2 c κs = let s = safe _ (c .before .before .before .before .befor
 enum-known-y : tie.Need-enum-known-y
 enum-known-y c = search needs
 
-enum-told-2 : tie.Need-enum-told-2
-enum-told-2 c = search needs
+enum-known-cause-2 : tie.Need-enum-known-cause-2
+enum-known-cause-2 c = search needs
 
 returns-2 : tie.Need-returns-2
 unfolding inSameSurject
-returns-2 c = let s = c .before .before .before .before .before .before .before .before .before .args .shared .now in rw ((c .before .before .before .before .before .before .find .ensures s .same) ∙ (c .before .before .before .before .x .given .1), (c .before .before .find2 .ensures s .same) ∙ (c .enum-told2 .given .1))
+returns-2 c = let s = c .before .before .before .before .before .before .before .before .before .before .args .shared .now in rw ((c .before .before .before .before .before .before .before .find .ensures s .same) ∙ (c .before .before .before .before .before .x .given .1), (c .before .before .before .find2 .ensures s .same) ∙ (c .before .cause2 .given .1))
 
 get-requires : tie.Need-get-requires
 get-requires c κs = let l = on-live _ _ _ _ (c .before .before .before .before .before .before .before .before .before .before .pre) (c .before .before .before .before .before .before .before .find .ensures _) (c .before .before .before .before .before .x .given .1) in search needs
@@ -56,11 +56,11 @@ in-same-surject-spec =
     (tie.spec
     find-requires
     enum-known-x
-    enum-told
+    enum-known-cause
     returns
     find-requires-2
     enum-known-y
-    enum-told-2
+    enum-known-cause-2
     returns-2
     get-requires
     get-requires-2

@@ -53,7 +53,7 @@ passes st h G lent c o d = ((λ e. true≢false (sym (G .ready .shape) ∙ exact
 pub not-accepted : (r : Refusal) → numberOf r ≢ 0
 not-accepted Shape = omega arith
 not-accepted Unsound = omega arith
-not-accepted Dead = omega arith
+not-accepted (Dead cause) = omega arith
 not-accepted SameClass = omega arith
 not-accepted NoElement = omega arith
 not-accepted NoShared = omega arith

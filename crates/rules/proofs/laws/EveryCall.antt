@@ -17,7 +17,7 @@ use Rattle.rules.specs.Exchange
 use Rattle.rules.specs.Exchange.{allDiffer}
 use Rattle.rules.specs.Compress
 use Rattle.rules.specs.Compress.{pairWidth}
-use Rattle.rules.specs.Calls.{Call, lenSurject, inSameSurject, getElement, getShared, setElement, setShared, check, newRun, insert, union, remove, removeShared, list, drain, seal, drainAll, clear, exchange, compress, compressWith, ruling}
+use Rattle.rules.specs.Calls.{Call, lenSurject, inSameSurject, getElement, getShared, lookup, setElement, setShared, check, newRun, insert, union, remove, removeShared, list, drain, seal, drainAll, clear, exchange, compress, compressWith, ruling}
 use Rattle.rules.specs.History.{History}
 use Rattle.rules.proofs.laws.Lists.{all-map, all-image}
 use Rattle.rules.proofs.laws.Tests.{eq-is, is-not}
@@ -63,10 +63,11 @@ module _ (st : State) (lent : List ℕ) (h : History) (G : Good st h) where
       (λ e. refused))
 
   pub call-follows : (c : Call) → Follows h c (ruling st lent c)
-  unfolding Reads.lenSurject Reads.inSameSurject Reads.getElement Reads.getShared Reads.setElement Reads.setShared Runs.newRun Runs.insert Runs.remove Drains.removeShared Drains.list Drains.drain Drains.drainAll Drains.clear Seals.seal Compress.compress Compress.compressWith
+  unfolding Reads.lenSurject Reads.inSameSurject Reads.getElement Reads.getShared Reads.lookup Reads.setElement Reads.setShared Runs.newRun Runs.insert Runs.remove Drains.removeShared Drains.list Drains.drain Drains.drainAll Drains.clear Seals.seal Compress.compress Compress.compressWith
   call-follows (lenSurject k) = on-live h (lenSurject k) st k _ (λ l. done G)
   call-follows (inSameSurject j k) = on-live h (inSameSurject j k) st j _ (λ i. on-live h (inSameSurject j k) st k _ (λ l. done G))
   call-follows (getElement k) = on-live h (getElement k) st k _ (λ l. done G)
+  call-follows (lookup k) = on-live h (lookup k) st k _ (λ l. done G)
   call-follows (getShared k) = on-live h (getShared k) st k _ (λ l. done G)
   call-follows (setElement k payload) = on-live h (setElement k payload) st k _ (λ l. done (good-setElement st h G (k .slot) payload (live-of st k l .live)))
   call-follows (setShared k value) = on-live h (setShared k value) st k _ (λ l. done (good-setShared st h G (classOf (st .elems) (k .slot)) value (working st (G .ready) .class-live (k .slot) (live-of st k l .live))))

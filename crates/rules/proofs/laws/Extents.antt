@@ -24,7 +24,7 @@ use Rattle.rules.specs.Exchange
 use Rattle.rules.specs.Exchange.{allDiffer}
 use Rattle.rules.specs.Compress
 use Rattle.rules.specs.Compress.{pairWidth}
-use Rattle.rules.specs.Calls.{Call, lenSurject, inSameSurject, getElement, getShared, setElement, setShared, check, newRun, insert, union, remove, removeShared, list, drain, seal, drainAll, clear, exchange, compress, compressWith, ruling, step}
+use Rattle.rules.specs.Calls.{Call, lenSurject, inSameSurject, getElement, getShared, lookup, setElement, setShared, check, newRun, insert, union, remove, removeShared, list, drain, seal, drainAll, clear, exchange, compress, compressWith, ruling, step}
 use Rattle.rules.proofs.laws.Rulings.{by-test, by-key, by-keys}
 
 -- Rules 3: after taking a slot the extent is the higher of what it was and the slot taken
@@ -103,10 +103,11 @@ module _ (st : State) (lent : List ℕ) where
   on-live k rule h = by-key (Keeps st) (λ r. tt) st k rule (λ l. h)
 
   keeps : (c : Call) → (Anew c → ⊥) → Keeps st (ruling st lent c)
-  unfolding Reads.lenSurject Reads.inSameSurject Reads.getElement Reads.getShared Reads.setElement Reads.setShared Runs.newRun Runs.begun Runs.insert Runs.inserted Runs.keeping Runs.joined Runs.union Runs.remove Drains.removeShared Drains.list Drains.drain Seals.seal Seals.sealed Exchange.exchange freeShared freed raise
+  unfolding Reads.lenSurject Reads.inSameSurject Reads.getElement Reads.getShared Reads.lookup Reads.setElement Reads.setShared Runs.newRun Runs.begun Runs.insert Runs.inserted Runs.keeping Runs.joined Runs.union Runs.remove Drains.removeShared Drains.list Drains.drain Seals.seal Seals.sealed Exchange.exchange freeShared freed raise
   keeps (lenSurject k) n = on-live k _ (same st)
   keeps (inSameSurject j k) n = on-live j _ (on-live k _ (same st))
   keeps (getElement k) n = on-live k _ (same st)
+  keeps (lookup k) n = on-live k _ (same st)
   keeps (getShared k) n = on-live k _ (same st)
   keeps (setElement k payload) n = on-live k _ (record { elems = omega arith; shared = omega arith })
   keeps (setShared k value) n = on-live k _ (record { elems = omega arith; shared = omega arith })

@@ -23,7 +23,7 @@ pub data Follows (h : History) (c : Call) : Ruling → Type 0 where
 pub follows : (st : State) (lent : List ℕ) (h : History) (c : Call) (r : Ruling) → Good st h → Follows h c r → Good (outcome st lent r .state) (noted h c (outcome st lent r .said))
 follows st lent h c r G (refused {r = Shape}) = G
 follows st lent h c r G (refused {r = Unsound}) = G
-follows st lent h c r G (refused {r = Dead}) = G
+follows st lent h c r G (refused {r = Dead cause}) = G
 follows st lent h c r G (refused {r = SameClass}) = G
 follows st lent h c r G (refused {r = NoElement}) = G
 follows st lent h c r G (refused {r = NoShared}) = G

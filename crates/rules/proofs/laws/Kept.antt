@@ -25,7 +25,7 @@ use Rattle.rules.specs.Slots
 use Rattle.rules.specs.Slots.{isFull}
 use Rattle.rules.specs.Compress
 use Rattle.rules.specs.Compress.{pairWidth}
-use Rattle.rules.specs.Calls.{Call, lenSurject, inSameSurject, getElement, getShared, setElement, setShared, check, newRun, insert, union, remove, removeShared, list, drain, seal, drainAll, clear, exchange, compress, compressWith, ruling, Ready, step, freshStep}
+use Rattle.rules.specs.Calls.{Call, lenSurject, inSameSurject, getElement, getShared, lookup, setElement, setShared, check, newRun, insert, union, remove, removeShared, list, drain, seal, drainAll, clear, exchange, compress, compressWith, ruling, Ready, step, freshStep}
 use Rattle.rules.proofs.laws.Lists.{all-map, all-image}
 use Rattle.rules.proofs.laws.Working.{view}
 use Rattle.rules.proofs.laws.Safe.{working}
@@ -57,10 +57,11 @@ module _ (st : State) (R : Ready st) where
   on-live k rule h = by-key Keeps (λ r. tt) st k rule (λ l. h (live-at st k l))
 
   keeps : (lent : List ℕ) (c : Call) → Keeps (ruling st lent c)
-  unfolding Reads.lenSurject Reads.inSameSurject Reads.getElement Reads.getShared Reads.setElement Reads.setShared Runs.newRun Runs.insert Runs.keeping Runs.union Runs.remove Drains.removeShared Drains.list Drains.drain Drains.drainAll Drains.clear Seals.seal Exchange.exchange Compress.compress Compress.compressWith
+  unfolding Reads.lenSurject Reads.inSameSurject Reads.getElement Reads.getShared Reads.lookup Reads.setElement Reads.setShared Runs.newRun Runs.insert Runs.keeping Runs.union Runs.remove Drains.removeShared Drains.list Drains.drain Drains.drainAll Drains.clear Seals.seal Exchange.exchange Compress.compress Compress.compressWith
   keeps lent (lenSurject k) = on-live k _ (λ h. R)
   keeps lent (inSameSurject j k) = on-live j _ (λ h. on-live k _ (λ l. R))
   keeps lent (getElement k) = on-live k _ (λ h. R)
+  keeps lent (lookup k) = on-live k _ (λ h. R)
   keeps lent (getShared k) = on-live k _ (λ h. R)
   keeps lent (setElement k payload) = on-live k _ (λ h. setElement-keeps st R (k .slot) payload h)
   keeps lent (setShared k value) = on-live k _ (λ h. setShared-keeps st R (view st .class (k .slot)) value (working st R .class-live (k .slot) h))

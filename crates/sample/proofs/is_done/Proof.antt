@@ -14,7 +14,7 @@ element-copy-out-if1 : tie.Need-element-copy-out-if1
 element-copy-out-if1 c = search needs
 
 returns : tie.Need-returns
-returns c = told _ _ (c .before .before .before .before .args .sample .now) true (ap (λ (a : Done). saidDone a false) (c .before .before .enum-told .given .1)) (record { number = sym (c .if1 .taken); values = tt })
+returns c = told _ _ (c .before .before .before .before .args .sample .now) true (ap (λ (a : Done). saidDone a false) (c .before .before .enum-told .given .1)) (record { number = sym (c .if1 .taken); values = λ e. tt })
 
 enum-known-answer : tie.Need-enum-known-answer
 enum-known-answer c = search needs

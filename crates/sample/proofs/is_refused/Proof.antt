@@ -1,3 +1,5 @@
+use Rattle.sample.proofs.Tests.{refused}
+use mathlib.Core.Path.{_∙_}
 use borrow.Author.Needs.{needs}
 use Rattle.sample.proofs.is_refused.Statement.{statement}
 use Rattle.sample.proofs.is_refused.Tie as tie
@@ -12,7 +14,7 @@ number-requires : tie.Need-number-requires
 number-requires c κs = search needs
 
 returns : tie.Need-returns
-returns c = search needs
+returns c = refused (c .before .before .before .before .args .refusal) _ (c .before .before .before .before .args .sample .now) (c .before .before .before .number-of .ensures) (c .if1 .taken ∙ c .before .number .ensures)
 
 returns-2 : tie.Need-returns-2
 returns-2 c = search needs

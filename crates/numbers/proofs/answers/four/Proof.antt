@@ -12,14 +12,14 @@ enum-told c = search needs
 enum-known-answer : tie.Need-enum-known-answer
 enum-known-answer c = search needs
 
-number-of-requires : tie.Need-number-of-requires
-number-of-requires c κs = search needs
+result-of-requires : tie.Need-result-of-requires
+result-of-requires c κs = search needs
 
 returns : tie.Need-returns
 returns c = accepted _ _ _ _ _ (ap (λ (a : Done). saidOld a (c .before .before .args .old)) (c .enum-told .given .1))
 
 returns-2 : tie.Need-returns-2
-returns-2 c = refused _ _ (c .before .before .answer .given .0 .0) _ _ _ _ (ap (λ (a : Done). saidOld a (c .before .before .before .before .args .old)) (c .before .before .answer .given .1)) (c .number-of .ensures)
+returns-2 c = refused _ _ (c .before .before .answer .given .0 .0) _ _ _ _ (ap (λ (a : Done). saidOld a (c .before .before .before .before .args .old)) (c .before .before .answer .given .1)) (c .result-of .ensures)
 
 pub four-spec : {M : Type 1} → statement M
-four-spec = tie.close (tie.spec enum-told enum-known-answer number-of-requires returns returns-2)
+four-spec = tie.close (tie.spec enum-told enum-known-answer result-of-requires returns returns-2)

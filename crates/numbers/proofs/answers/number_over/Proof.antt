@@ -15,14 +15,14 @@ number-if-requires c κs = search needs
 enum-known-answer-2 : tie.Need-enum-known-answer-2
 enum-known-answer-2 c = search needs
 
-number-of-requires : tie.Need-number-of-requires
-number-of-requires c κs = search needs
+result-of-requires : tie.Need-result-of-requires
+result-of-requires c κs = search needs
 
 returns : tie.Need-returns
 returns c = rw (c .before .number-if .ensures) (accepted _ _ _ _ _ (ap (λ (a : Number). saidNumber a (c .before .before .before .before .before .args .over)) (c .before .before .before .answer .given .1)))
 
 returns-2 : tie.Need-returns-2
-returns-2 c = refused _ _ (c .before .before .answer2 .given .0 .0) _ _ _ _ (ap (λ (a : Number). saidNumber a (c .before .before .before .before .args .over)) (c .before .before .answer2 .given .1)) (c .number-of .ensures)
+returns-2 c = refused _ _ (c .before .before .answer2 .given .0 .0) _ _ _ _ (ap (λ (a : Number). saidNumber a (c .before .before .before .before .args .over)) (c .before .before .answer2 .given .1)) (c .result-of .ensures)
 
 pub number-over-spec : {M : Type 1} → statement M
 number-over-spec =
@@ -31,6 +31,6 @@ number-over-spec =
     enum-known-answer
     number-if-requires
     enum-known-answer-2
-    number-of-requires
+    result-of-requires
     returns
     returns-2)

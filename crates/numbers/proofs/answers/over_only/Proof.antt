@@ -15,16 +15,16 @@ number-if-requires c κs = search needs
 enum-known-answer : tie.Need-enum-known-answer
 enum-known-answer c = search needs
 
-number-of-requires : tie.Need-number-of-requires
-number-of-requires c κs = search needs
+result-of-requires : tie.Need-result-of-requires
+result-of-requires c κs = search needs
 
 returns : tie.Need-returns
 returns c = rw (c .before .number-if .ensures) (accepted _ _ _ _ _ (ap (λ (a : Done). saidDone a (c .before .before .before .before .args .over)) (c .before .before .enum-told .given .1)))
 
 returns-2 : tie.Need-returns-2
-returns-2 c = refused _ _ (c .before .before .answer .given .0 .0) _ _ _ _ (ap (λ (a : Done). saidDone a (c .before .before .before .before .args .over)) (c .before .before .answer .given .1)) (c .number-of .ensures)
+returns-2 c = refused _ _ (c .before .before .answer .given .0 .0) _ _ _ _ (ap (λ (a : Done). saidDone a (c .before .before .before .before .args .over)) (c .before .before .answer .given .1)) (c .result-of .ensures)
 
 pub over-only-spec : {M : Type 1} → statement M
 over-only-spec =
     tie.close
-    (tie.spec enum-told number-if-requires enum-known-answer number-of-requires returns returns-2)
+    (tie.spec enum-told number-if-requires enum-known-answer result-of-requires returns returns-2)

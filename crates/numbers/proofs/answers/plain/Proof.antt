@@ -12,14 +12,14 @@ enum-told c = search needs
 enum-known-answer : tie.Need-enum-known-answer
 enum-known-answer c = search needs
 
-number-of-requires : tie.Need-number-of-requires
-number-of-requires c κs = search needs
+result-of-requires : tie.Need-result-of-requires
+result-of-requires c κs = search needs
 
 returns : tie.Need-returns
 returns c = λ over. accepted _ _ _ _ _ (ap (λ (a : Done). saidDone a over) (c .enum-told .given .1))
 
 returns-2 : tie.Need-returns-2
-returns-2 c = λ over. refused _ _ (c .before .before .answer .given .0 .0) _ _ _ _ (ap (λ (a : Done). saidDone a over) (c .before .before .answer .given .1)) (c .number-of .ensures)
+returns-2 c = λ over. refused _ _ (c .before .before .answer .given .0 .0) _ _ _ _ (ap (λ (a : Done). saidDone a over) (c .before .before .answer .given .1)) (c .result-of .ensures)
 
 pub plain-spec : {M : Type 1} → statement M
-plain-spec = tie.close (tie.spec enum-told enum-known-answer number-of-requires returns returns-2)
+plain-spec = tie.close (tie.spec enum-told enum-known-answer result-of-requires returns returns-2)

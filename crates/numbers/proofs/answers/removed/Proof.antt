@@ -24,8 +24,8 @@ enum-known-rest c = search needs
 enum-known-answer-2 : tie.Need-enum-known-answer-2
 enum-known-answer-2 c = search needs
 
-number-of-requires : tie.Need-number-of-requires
-number-of-requires c κs = search needs
+result-of-requires : tie.Need-result-of-requires
+result-of-requires c κs = search needs
 
 returns : tie.Need-returns
 returns c = rw (c .before .before .before .number-if .ensures) (accepted _ _ _ _ _ (ap (λ (a : Removed). saidRemoved a (c .before .before .before .before .before .before .before .args .over)) (c .before .before .before .before .before .answer .given .1) ∙ ap (λ (q : Rest). saidRemoved (Out (c .before .before .before .before .before .answer .given .0 .0) q) (c .before .before .before .before .before .before .before .args .over)) (c .before .enum-told .given .1)))
@@ -34,7 +34,7 @@ returns-2 : tie.Need-returns-2
 returns-2 c = rw (c .before .before .before .before .number-if .ensures) (accepted _ _ _ _ _ (ap (λ (a : Removed). saidRemoved a (c .before .before .before .before .before .before .before .before .args .over)) (c .before .before .before .before .before .before .answer .given .1) ∙ ap (λ (q : Rest). saidRemoved (Out (c .before .before .before .before .before .before .answer .given .0 .0) q) (c .before .before .before .before .before .before .before .before .args .over)) (c .before .before .rest .given .1)))
 
 returns-3 : tie.Need-returns-3
-returns-3 c = refused _ _ (c .before .before .answer2 .given .0 .0) _ _ _ _ (ap (λ (a : Removed). saidRemoved a (c .before .before .before .before .args .over)) (c .before .before .answer2 .given .1)) (c .number-of .ensures)
+returns-3 c = refused _ _ (c .before .before .answer2 .given .0 .0) _ _ _ _ (ap (λ (a : Removed). saidRemoved a (c .before .before .before .before .args .over)) (c .before .before .answer2 .given .1)) (c .result-of .ensures)
 
 pub removed-spec : {M : Type 1} → statement M
 removed-spec =
@@ -45,7 +45,7 @@ removed-spec =
     enum-told
     enum-known-rest
     enum-known-answer-2
-    number-of-requires
+    result-of-requires
     returns
     returns-2
     returns-3)

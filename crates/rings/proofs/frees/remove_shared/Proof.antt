@@ -14,14 +14,14 @@ find-requires c κs = let s = safe _ (c .before .before .before .pre) in search 
 enum-known-x : tie.Need-enum-known-x
 enum-known-x c = search needs
 
-enum-told : tie.Need-enum-told
-enum-told c = search needs
+enum-known-cause : tie.Need-enum-known-cause
+enum-known-cause c = search needs
 
 same-length : tie.Need-same-length
 same-length c = search needs
 
 returns : tie.Need-returns
-returns c = removeShared-3 _ _ (c .before .before .find .ensures _ .same ∙ c .enum-told .given .1)
+returns c = removeShared-3 _ _ (c .before .before .before .find .ensures _ .same ∙ c .before .cause .given .1)
 
 get-requires : tie.Need-get-requires
 get-requires c κs = let l = on-live _ _ _ _ (c .before .before .before .before .before .before .before .before .pre) (c .before .before .before .before .find .ensures _) (c .before .before .x .given .1) in search needs
@@ -56,7 +56,7 @@ remove-shared-spec =
     (tie.spec
     find-requires
     enum-known-x
-    enum-told
+    enum-known-cause
     same-length
     returns
     get-requires

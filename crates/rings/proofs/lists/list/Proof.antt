@@ -14,11 +14,11 @@ find-requires c κs = let s = safe _ (c .before .before .before .pre) in search 
 enum-known-x : tie.Need-enum-known-x
 enum-known-x c = search needs
 
-enum-told : tie.Need-enum-told
-enum-told c = search needs
+enum-known-cause : tie.Need-enum-known-cause
+enum-known-cause c = search needs
 
 returns : tie.Need-returns
-returns c = list-3 _ _ _ (c .before .before .find .ensures _ .same ∙ c .enum-told .given .1)
+returns c = list-3 _ _ _ (c .before .before .before .find .ensures _ .same ∙ c .before .cause .given .1)
 
 size-at-requires : tie.Need-size-at-requires
 size-at-requires c κs = on-live _ _ _ _ (c .before .before .before .before .before .before .before .pre) (c .before .before .before .find .ensures _) (c .before .x .given .1)
@@ -44,7 +44,7 @@ list-spec =
     (tie.spec
     find-requires
     enum-known-x
-    enum-told
+    enum-known-cause
     returns
     size-at-requires
     mul-if1

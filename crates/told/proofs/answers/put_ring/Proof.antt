@@ -1,4 +1,5 @@
 -- `lines::answers::put_ring` meets its contract.
+use mathlib.Core.Path.{refl}
 use mathlib.Core.Bool.{false}
 use Rattle.told.proofs.Texts.{text-refused}
 use Rattle.told.proofs.Puts.{put-then, put-same}
@@ -23,10 +24,10 @@ put-decimal-requires : tie.Need-put-decimal-requires
 put-decimal-requires c κs = search needs
 
 mul-put-numbers : tie.Need-mul-put-numbers
-mul-put-numbers c = let p : c .before .before .before .before .before .before .before .before .before .before .before .answer .given .0 .0 * 2 ≤ length (c .before .before .before .before .before .before .before .before .before .before .before .before .before .before .before .args .keys .now) = rw (c .before .before .before .before .before .before .before .before .before .before .before .answer .given .1) at (c .before .before .before .before .before .before .before .before .before .before .before .before .before .before .before .pre .1) in search needs
+mul-put-numbers c = let p : c .before .before .before .before .before .before .before .before .before .before .before .answer .given .0 .0 * 2 ≤ length (c .before .before .before .before .before .before .before .before .before .before .before .before .before .before .before .args .keys .now) = rw (c .before .before .before .before .before .before .before .before .before .before .before .answer .given .1) at (c .before .before .before .before .before .before .before .before .before .before .before .before .before .before .before .pre .1) refl in search needs
 
 put-numbers-requires : tie.Need-put-numbers-requires
-put-numbers-requires c κs = let p : c .before .before .before .before .before .before .before .before .before .before .before .answer .given .0 .0 * 2 ≤ length (c .before .before .before .before .before .before .before .before .before .before .before .before .before .before .before .args .keys .now) = rw (c .before .before .before .before .before .before .before .before .before .before .before .answer .given .1) at (c .before .before .before .before .before .before .before .before .before .before .before .before .before .before .before .pre .1) in (p, omega (arith, c .before .before .before .before .before .before .before .before .before .before .before .before .before .before .before .pre .0, c .before .before .before .put-decimal .ensures .1, c .before .before .before .before .before .before .before .put-text .ensures .past))
+put-numbers-requires c κs = let p : c .before .before .before .before .before .before .before .before .before .before .before .answer .given .0 .0 * 2 ≤ length (c .before .before .before .before .before .before .before .before .before .before .before .before .before .before .before .args .keys .now) = rw (c .before .before .before .before .before .before .before .before .before .before .before .answer .given .1) at (c .before .before .before .before .before .before .before .before .before .before .before .before .before .before .before .pre .1) refl in (p, omega (arith, c .before .before .before .before .before .before .before .before .before .before .before .before .before .before .before .pre .0, c .before .before .before .put-decimal .ensures .1, c .before .before .before .before .before .before .before .put-text .ensures .past))
 
 enum-known-answer-2 : tie.Need-enum-known-answer-2
 enum-known-answer-2 c = search needs
@@ -39,7 +40,7 @@ same-length c = search needs
 
 returns : tie.Need-returns
 returns c =
-    let p : c .before .before .before .before .before .before .before .before .before .before .before .before .before .before .answer .given .0 .0 * 2 ≤ length (c .before .before .before .before .before .before .before .before .before .before .before .before .before .before .before .before .before .before .args .keys .now) = rw (c .before .before .before .before .before .before .before .before .before .before .before .before .before .before .answer .given .1) at (c .before .before .before .before .before .before .before .before .before .before .before .before .before .before .before .before .before .before .pre .1) in
+    let p : c .before .before .before .before .before .before .before .before .before .before .before .before .before .before .answer .given .0 .0 * 2 ≤ length (c .before .before .before .before .before .before .before .before .before .before .before .before .before .before .before .before .before .before .args .keys .now) = rw (c .before .before .before .before .before .before .before .before .before .before .before .before .before .before .answer .given .1) at (c .before .before .before .before .before .before .before .before .before .before .before .before .before .before .before .before .before .before .pre .1) refl in
     rw (c .before .before .before .before .before .before .before .before .before .before .before .before .before .before .answer .given .1)
     (put-then (put-then (c .before .before .before .before .before .before .before .before .before .before .put-text .ensures) (c .before .before .before .before .before .before .put-decimal .ensures .0)) (c .before .before .put-numbers .ensures .0), omega (arith, c .before .before .put-numbers .ensures .1, c .before .before .before .before .before .before .put-decimal .ensures .1, c .before .before .before .before .before .before .before .before .before .before .put-text .ensures .past))
 
