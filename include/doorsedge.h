@@ -27,7 +27,9 @@
 
    Refusals. Each entry returns 0 when it accepted, else the number of the refusal. A refused call changes nothing:
    head, tables, buffers and `out` stay as they were. The tests come in the order 1, 2, 3, 4, 12, 6, 5, 7, and each
-   entry below lists those that it can give. Every entry but `fresh` can give 1 and 2.
+   entry below lists those that it can give. Every entry but `fresh` can give 1 and 2. Refusal 3 says why the key is dead:
+   the entry returns 3 + 256 * cause, so compare DOORSEDGE_NUMBER(result) with DOORSEDGE_DEAD, never the result itself. Every
+   other result is the number alone.
 
    Keys. A key is two numbers, slot and generation. It is live while its frame is in the tables, and dead (refusal 3)
    from its frame's removal on. Where only these calls write the tables, a dead key can come alive again, meaning
@@ -36,6 +38,16 @@
        removal raises it by one, so with a thousand a second that comes after 49 days;
      - drain_all overflowed in its closing clear, which no answer says: the head's generation is then 1;
      - `fresh`, or a compression with `reset`: the generation is 1 again.
+   Why a key is dead. One of three causes, tested in this order: 1 its slot is 0 or past the extent, 2 its slot is free,
+   3 its slot holds a frame of another generation. Of several keys it is the cause of the first dead one, in the order of the
+   arguments. Where only these calls write the tables, a key that was given since the last `fresh`, `clear`, `drain_all` or
+   compression
+     - never has cause 1;
+     - has cause 2 where its frame is gone and its slot is free;
+     - has cause 3 where its frame is gone and another came into its slot.
+   So cause 1 is that of a key from before, of other tables, or damaged on its way. But such keys can have any of the three.
+   `lookup` asks for nothing but this.
+
    After `fresh`, `clear`, `drain_all` and a compression forget all keys from before; `compress_with` tells each frame's new
    one. What to do on overflow: before the next frame is put in, compress, and forget all keys from before. Or, where keys
    have to stay, forget those of frames that are gone (a read gives 3 for each), and each of the others as soon as its frame
@@ -81,13 +93,24 @@ enum doorsedge_refusal {
     DOORSEDGE_OK = 0,
     DOORSEDGE_SHAPE = 1,      /* a capacity is not 1 to 65,536, or a table's length is not what its capacity asks */
     DOORSEDGE_UNSOUND = 2,    /* the shape fits, but head and tables are not a sound state (Sound 1 to 12, above) */
-    DOORSEDGE_DEAD = 3,       /* a key handed in is not live */
+    DOORSEDGE_DEAD = 3,       /* a key handed in is not live; the result says why, see doorsedge_cause */
     DOORSEDGE_SAME_CLASS = 4, /* two keys that must be of different runs are of one */
     DOORSEDGE_NO_ELEMENT = 5, /* no element slot up to the capacity is free */
     DOORSEDGE_NO_SHARED = 6,  /* no shared slot up to the capacity is free */
     DOORSEDGE_SHORT = 7,      /* a buffer has fewer places than needed */
     DOORSEDGE_SEALED = 12     /* the run is sealed: no frame may come into it, nor may it be sealed again */
 };
+
+/* Why a key is dead: of the first dead key, in the order of the arguments. */
+enum doorsedge_cause {
+    DOORSEDGE_NO_SLOT = 1,         /* its slot is 0 or past the extent */
+    DOORSEDGE_FREE_SLOT = 2,       /* its slot is free */
+    DOORSEDGE_OTHER_GENERATION = 3 /* its slot holds a frame of another generation */
+};
+
+/* What a result says: the refusal's number, 0 when accepted; and the cause of refusal 3, else 0. */
+#define DOORSEDGE_NUMBER(result) ((result) & UINT64_C(255))
+#define DOORSEDGE_CAUSE(result) ((result) >> 8)
 
 /* ---- Layout. Slots are numbered from 1; slot s of a table of width w begins at number (s - 1) * w. */
 
@@ -184,6 +207,11 @@ uint64_t doorsedge_check(const uint64_t head[DOORSEDGE_HEAD], const uint64_t *el
 
 /* ---- Reads: they change nothing but `out`. */
 
+/* Tells whether the key is live: 0 if so, else why not.
+   Refusals: 1, 2, 3. */
+uint64_t doorsedge_lookup(const uint64_t head[DOORSEDGE_HEAD], const uint64_t *elems, size_t elems_len,
+                          const uint64_t *shared, size_t shared_len, uint64_t slot, uint64_t generation);
+
 /* out: how many frames the key's run has.
    Refusals: 1, 2, 3. */
 uint64_t doorsedge_len_surject(const uint64_t head[DOORSEDGE_HEAD], const uint64_t *elems, size_t elems_len,
@@ -230,7 +258,7 @@ uint64_t doorsedge_set_shared(const uint64_t head[DOORSEDGE_HEAD], const uint64_
 
 /* Stores the shared values of four different runs at once. keys: slot and generation of each key in turn.
    out: the old values, in key order.
-   Refusals: 1, 2, 3 (any of the four), 4 (two keys of one run). */
+   Refusals: 1, 2, 3 (with the cause of the first dead one of the four), 4 (two keys of one run). */
 uint64_t doorsedge_exchange_shared4(const uint64_t head[DOORSEDGE_HEAD], const uint64_t *elems, size_t elems_len,
                                     uint64_t *shared, size_t shared_len, const uint64_t keys[8],
                                     const uint64_t values[4], uint64_t out[4]);

@@ -4,7 +4,8 @@
 # Stack: in each function every push, every `sub ..,%rsp` and a return address are added up, then the deepest callee's sum,
 # or the 128 bytes that one without callees may use below; so it is a bound, and memset's own stack is not in it. Fails over
 # DOORSEDGE_STACK of include/doorsedge.h, on a recursion, on a call through a register or a stack lowered otherwise, and
-# where a symbol from outside is another than memset.
+# where a symbol from outside is another than memset. A jump by a table is none of these if the table is the function's own
+# and each of its places lies in the function.
 set -eu
 cd "$(dirname "$0")/.."
 archive=${1:-${DOORSEDGE_ARCHIVE:-target/staticlib}/libhost.a}
@@ -15,7 +16,13 @@ most=$(awk '$2 == "DOORSEDGE_STACK" { print $3 }' include/doorsedge.h)
 outside=$(nm -u "$archive" | awk '$1 == "U" { print $2 }' | sort -u)
 [ "$outside" = memset ] || { echo "stack-use: symbols from outside are not memset alone:" $outside >&2; exit 1; }
 
-objdump -dr --no-show-raw-insn "$archive" | awk -v most="$most" '
+tables=$(objdump -r "$archive" | awk '
+    /^RELOCATION RECORDS FOR/ { of = $4; if (!sub(/^\[\.rodata\./, "", of)) of = ""; sub(/\]:$/, "", of); next }
+    of != "" && $2 ~ /^R_/ { to = $3; sub(/^\.text\./, "", to); sub(/[-+]0x[0-9a-f]+$/, "", to); read[of] = 1; if (to != of) out[of] = 1 }
+    END { for (of in read) if (!(of in out)) print of }')
+
+objdump -dr --no-show-raw-insn "$archive" | awk -v most="$most" -v tables="$tables" '
+    BEGIN { n = split(tables, names, "\n"); for (i = 1; i <= n; i++) table[names[i]] = 1 }
     function number(text,   value, i) { # $0x1a8 as a decimal
         sub(/^[^$]*\$0x/, "", text); sub(/,.*/, "", text)
         for (i = 1; i <= length(text); i++) value = value * 16 + index("0123456789abcdef", substr(text, i, 1)) - 1
@@ -39,6 +46,7 @@ objdump -dr --no-show-raw-insn "$archive" | awk -v most="$most" '
     $2 ~ /^push/ { own[name] += 8; next }
     $2 == "sub" && $3 ~ /,%rsp$/ { if ($3 ~ /^\$0x/) own[name] += number($3); else wrong("a stack lowered by " $0); next }
     $2 ~ /^(and|lea|mov|enter)/ && $3 ~ /,%rsp$/ { wrong("a stack changed by " $0) }
+    $2 == "jmp" && $3 ~ /^\*%/ && (name in table) { next }
     $2 ~ /^(call|j)/ && $3 ~ /^\*/ { wrong("a call through a register: " $0) }
     $2 ~ /^(call|j)/ && $4 ~ /^</ { near = $4; gsub(/[<>]/, "", near); if ($2 !~ /^call/ && index(near "+", name "+") == 1) near = "" }
     $2 == "R_X86_64_PLT32" || $3 ~ /^\.text\./ { called($3); next }

@@ -79,6 +79,9 @@ static void refused(int line, const char *what, uint64_t got, uint64_t want) {
 }
 #define REFUSED(call, want) (mark_out(), refused(__LINE__, #call, (call), (want)))
 
+/* Refusal 3 with this cause, as an entry returns it. */
+#define DEAD(cause) (DOORSEDGE_DEAD + UINT64_C(256) * DOORSEDGE_##cause)
+
 /* Slots 1, 3, 2 in a ring under 100, and 4 under 200; one slot and two headers are free. */
 static void two_runs(void) {
     IS(doorsedge_fresh(head, FRAMES, RUNS, elems, ELEMS, shared, SHARED), DOORSEDGE_OK);
@@ -110,18 +113,18 @@ static void reads(void) {
     two_runs();
     IS(doorsedge_len_surject(STATE, 3, 1, out), DOORSEDGE_OK);
     HOLDS(out, 3, UNTOUCHED);
-    REFUSED(doorsedge_len_surject(STATE, 3, 2, out), DOORSEDGE_DEAD);
+    REFUSED(doorsedge_len_surject(STATE, 3, 2, out), DEAD(OTHER_GENERATION));
     IS(doorsedge_in_same_surject(STATE, 3, 1, 1, 1, out), DOORSEDGE_OK);
     HOLDS(out, 1, UNTOUCHED);
     IS(doorsedge_in_same_surject(STATE, 3, 1, 4, 1, out), DOORSEDGE_OK);
     HOLDS(out, 0, UNTOUCHED);
-    REFUSED(doorsedge_in_same_surject(STATE, 3, 1, 5, 1, out), DOORSEDGE_DEAD);
+    REFUSED(doorsedge_in_same_surject(STATE, 3, 1, 5, 1, out), DEAD(NO_SLOT));
     IS(doorsedge_get(STATE, 3, 1, out), DOORSEDGE_OK);
     HOLDS(out, 12, UNTOUCHED);
-    REFUSED(doorsedge_get(STATE, 0, 1, out), DOORSEDGE_DEAD);
+    REFUSED(doorsedge_get(STATE, 0, 1, out), DEAD(NO_SLOT));
     IS(doorsedge_get_shared(STATE, 3, 1, out), DOORSEDGE_OK);
     HOLDS(out, 100, UNTOUCHED);
-    REFUSED(doorsedge_get_shared(STATE, 6, 1, out), DOORSEDGE_DEAD);
+    REFUSED(doorsedge_get_shared(STATE, 6, 1, out), DEAD(NO_SLOT));
     fill(places, DOORSEDGE_LIST_LEN(FRAMES));
     REFUSED(doorsedge_list(STATE, 3, 1, places, DOORSEDGE_LIST_LEN(3) - 1, out), DOORSEDGE_SHORT);
     HOLDS(places, UNTOUCHED);
@@ -130,16 +133,78 @@ static void reads(void) {
     HOLDS(places, 3, 1, 2, 1, 1, 1, UNTOUCHED);
 }
 
+/* Slot 3 is free and slot 4 has been taken again: a key of each cause, and one that lives. */
+static void three_causes(void) {
+    two_runs();
+    IS(doorsedge_remove_element(STATE, 4, 1, out), DOORSEDGE_OK);
+    IS(doorsedge_remove_element(STATE, 3, 1, out), DOORSEDGE_OK);
+    IS(doorsedge_insert(STATE, 1, 1, 13, out), DOORSEDGE_OK);
+    HOLDS(out, 3, 3);
+    IS(doorsedge_insert(STATE, 1, 1, 14, out), DOORSEDGE_OK);
+    HOLDS(out, 4, 3);
+    IS(doorsedge_remove_element(STATE, 3, 3, out), DOORSEDGE_OK);
+}
+
+/* What a result says, and the cause of each dead key by `lookup`: tested in the order 1, 2, 3. */
+static void lookup(void) {
+    const uint64_t last = UINT64_MAX;
+    three_causes();
+    mark_out();
+    IS(doorsedge_lookup(STATE, 1, 1), DOORSEDGE_OK);
+    IS(doorsedge_lookup(STATE, 4, 3), DOORSEDGE_OK);
+    REFUSED(doorsedge_lookup(STATE, 0, 0), DEAD(NO_SLOT));
+    REFUSED(doorsedge_lookup(STATE, 0, 1), DEAD(NO_SLOT));
+    REFUSED(doorsedge_lookup(STATE, FRAMES, 0), DEAD(NO_SLOT)); /* within the capacity, past the extent */
+    REFUSED(doorsedge_lookup(STATE, FRAMES + 1, 1), DEAD(NO_SLOT));
+    REFUSED(doorsedge_lookup(STATE, last, last), DEAD(NO_SLOT));
+    REFUSED(doorsedge_lookup(STATE, (UINT64_C(1) << 32) + 1, 1), DEAD(NO_SLOT));
+    REFUSED(doorsedge_lookup(STATE, 3, 3), DEAD(FREE_SLOT));
+    REFUSED(doorsedge_lookup(STATE, 3, 0), DEAD(FREE_SLOT)); /* a free slot's generation is 0, and yet no key is live there */
+    REFUSED(doorsedge_lookup(STATE, 3, last), DEAD(FREE_SLOT));
+    REFUSED(doorsedge_lookup(STATE, 4, 1), DEAD(OTHER_GENERATION));
+    REFUSED(doorsedge_lookup(STATE, 4, 0), DEAD(OTHER_GENERATION));
+    REFUSED(doorsedge_lookup(STATE, 4, last), DEAD(OTHER_GENERATION));
+    REFUSED(doorsedge_lookup(STATE, 1, (UINT64_C(1) << 32) + 1), DEAD(OTHER_GENERATION));
+    IS(DOORSEDGE_NUMBER(doorsedge_lookup(STATE, 3, 3)), DOORSEDGE_DEAD);
+    IS(DOORSEDGE_CAUSE(doorsedge_lookup(STATE, 0, 1)), DOORSEDGE_NO_SLOT);
+    IS(DOORSEDGE_CAUSE(doorsedge_lookup(STATE, 3, 3)), DOORSEDGE_FREE_SLOT);
+    IS(DOORSEDGE_CAUSE(doorsedge_lookup(STATE, 4, 1)), DOORSEDGE_OTHER_GENERATION);
+    IS(DOORSEDGE_NUMBER(doorsedge_lookup(STATE, 1, 1)), DOORSEDGE_OK);
+    IS(DOORSEDGE_CAUSE(doorsedge_lookup(STATE, 1, 1)), 0);
+    IS(doorsedge_fresh(head, FRAMES, RUNS, elems, ELEMS, shared, SHARED), DOORSEDGE_OK);
+    REFUSED(doorsedge_lookup(STATE, 1, 1), DEAD(NO_SLOT)); /* empty tables */
+    REFUSED(doorsedge_lookup(head, NULL, 0, NULL, 0, 1, 1), DOORSEDGE_SHAPE);
+    head[DOORSEDGE_GENERATION] = 0;
+    REFUSED(doorsedge_lookup(STATE, 0, 1), DOORSEDGE_UNSOUND);
+    IS(DOORSEDGE_CAUSE(doorsedge_lookup(STATE, 0, 1)), 0);
+}
+
+/* Of two keys and of four the first dead one's cause is told, in the order of the arguments. */
+static void first_dead_key(void) {
+    const uint64_t old_last[8] = {1, 1, 2, 1, 1, 1, 4, 1}, free_third[8] = {1, 1, 2, 1, 3, 3, 4, 1},
+                   none_first[8] = {0, 1, 3, 3, 4, 1, 9, 9}, values[4] = {1, 2, 3, 4};
+    three_causes();
+    REFUSED(doorsedge_in_same_surject(STATE, 3, 3, 4, 1, out), DEAD(FREE_SLOT));
+    REFUSED(doorsedge_in_same_surject(STATE, 4, 1, 3, 3, out), DEAD(OTHER_GENERATION));
+    REFUSED(doorsedge_in_same_surject(STATE, 1, 1, 9, 1, out), DEAD(NO_SLOT));
+    REFUSED(doorsedge_union(STATE, 4, 1, 9, 1, out), DEAD(OTHER_GENERATION));
+    REFUSED(doorsedge_union(STATE, 9, 1, 4, 1, out), DEAD(NO_SLOT));
+    REFUSED(doorsedge_union(STATE, 1, 1, 3, 3, out), DEAD(FREE_SLOT));
+    REFUSED(doorsedge_exchange_shared4(STATE, old_last, values, out), DEAD(OTHER_GENERATION));
+    REFUSED(doorsedge_exchange_shared4(STATE, free_third, values, out), DEAD(FREE_SLOT));
+    REFUSED(doorsedge_exchange_shared4(STATE, none_first, values, out), DEAD(NO_SLOT));
+}
+
 static void sets(void) {
     two_runs();
     IS(doorsedge_set(STATE, 3, 1, 13, out), DOORSEDGE_OK);
     HOLDS(out, 12, UNTOUCHED);
     IS(elems[2 * DOORSEDGE_FRAME + DOORSEDGE_FRAME_PAYLOAD], 13);
-    REFUSED(doorsedge_set(STATE, 3, 2, 14, out), DOORSEDGE_DEAD);
+    REFUSED(doorsedge_set(STATE, 3, 2, 14, out), DEAD(OTHER_GENERATION));
     IS(doorsedge_set_shared(STATE, 3, 1, 101, out), DOORSEDGE_OK);
     HOLDS(out, 100, UNTOUCHED);
     IS(shared[DOORSEDGE_HEADER_VALUE], 101);
-    REFUSED(doorsedge_set_shared(STATE, 3, 2, 102, out), DOORSEDGE_DEAD);
+    REFUSED(doorsedge_set_shared(STATE, 3, 2, 102, out), DEAD(OTHER_GENERATION));
 }
 
 static void exchange(void) {
@@ -160,7 +225,7 @@ static void exchange(void) {
 static void seal(void) {
     two_runs();
     fill(sealed, DOORSEDGE_SEAL_LEN(FRAMES));
-    REFUSED(doorsedge_seal(STATE, 3, 2, sealed, DOORSEDGE_SEAL_LEN(FRAMES), out), DOORSEDGE_DEAD);
+    REFUSED(doorsedge_seal(STATE, 3, 2, sealed, DOORSEDGE_SEAL_LEN(FRAMES), out), DEAD(OTHER_GENERATION));
     REFUSED(doorsedge_seal(STATE, 3, 1, sealed, DOORSEDGE_SEAL_LEN(3) - 1, out), DOORSEDGE_SHORT);
     REFUSED(doorsedge_seal(STATE, 3, 1, NULL, 0, out), DOORSEDGE_SHORT);
     HOLDS(sealed, UNTOUCHED);
@@ -173,7 +238,7 @@ static void seal(void) {
     REFUSED(doorsedge_seal(STATE, 1, 1, sealed, DOORSEDGE_SEAL_LEN(FRAMES), out), DOORSEDGE_SEALED);
     REFUSED(doorsedge_seal(STATE, 1, 1, NULL, 0, out), DOORSEDGE_SEALED);
     REFUSED(doorsedge_insert(STATE, 1, 1, 13, out), DOORSEDGE_SEALED);
-    REFUSED(doorsedge_insert(STATE, 1, 2, 13, out), DOORSEDGE_DEAD);
+    REFUSED(doorsedge_insert(STATE, 1, 2, 13, out), DEAD(OTHER_GENERATION));
     REFUSED(doorsedge_insert_in_place((struct doorsedge_lent_head *)head, elems, ELEMS, shared, SHARED, 1, 1, 13, out),
             DOORSEDGE_SEALED);
     REFUSED(doorsedge_union(STATE, 1, 1, 4, 1, out), DOORSEDGE_SEALED);
@@ -212,7 +277,7 @@ static void after_seal(void) {
 
 static void frames_in(void) {
     two_runs();
-    REFUSED(doorsedge_insert(STATE, 4, 2, 21, out), DOORSEDGE_DEAD);
+    REFUSED(doorsedge_insert(STATE, 4, 2, 21, out), DEAD(OTHER_GENERATION));
     IS(doorsedge_insert(STATE, 4, 1, 21, out), DOORSEDGE_OK);
     HOLDS(out, 5, 1, UNTOUCHED);
     REFUSED(doorsedge_insert(STATE, 4, 1, 22, out), DOORSEDGE_NO_ELEMENT);
@@ -234,7 +299,7 @@ static void frames_out(void) {
     two_runs();
     IS(doorsedge_remove_element(STATE, 1, 1, out), DOORSEDGE_OK);
     HOLDS(out, 10, 0, 0, 0);
-    REFUSED(doorsedge_remove_element(STATE, 1, 1, out), DOORSEDGE_DEAD);
+    REFUSED(doorsedge_remove_element(STATE, 1, 1, out), DEAD(FREE_SLOT));
     head[DOORSEDGE_GENERATION] = DOORSEDGE_LAST_GENERATION;
     IS(doorsedge_remove_element(STATE, 4, 1, out), DOORSEDGE_OK);
     HOLDS(out, 20, 1, 200, 1);
@@ -242,7 +307,7 @@ static void frames_out(void) {
     fill(out, 4);
     IS(doorsedge_remove_shared(STATE, 3, 1, out), DOORSEDGE_OK);
     HOLDS(out, 100, 0, UNTOUCHED);
-    REFUSED(doorsedge_remove_shared(STATE, 3, 1, out), DOORSEDGE_DEAD);
+    REFUSED(doorsedge_remove_shared(STATE, 3, 1, out), DEAD(FREE_SLOT));
     IS(head[DOORSEDGE_ELEMS_LIVE], 0);
 }
 
@@ -338,11 +403,11 @@ static void in_place(void) {
     IS(own.elems.extent, 2);
     IS(doorsedge_len_surject(numbers, elems, ELEMS, shared, SHARED, 2, 1, out), DOORSEDGE_OK);
     HOLDS(out, 2);
-    REFUSED(doorsedge_insert_in_place(&own, elems, ELEMS, shared, SHARED, 9, 1, 12, out), DOORSEDGE_DEAD);
+    REFUSED(doorsedge_insert_in_place(&own, elems, ELEMS, shared, SHARED, 9, 1, 12, out), DEAD(NO_SLOT));
     IS(doorsedge_remove_in_place(&own, elems, ELEMS, shared, SHARED, 1, 1, out), DOORSEDGE_OK);
     HOLDS(out, 10, 0, 0, 0);
     IS(own.generation, 2);
-    REFUSED(doorsedge_remove_in_place(&own, elems, ELEMS, shared, SHARED, 1, 1, out), DOORSEDGE_DEAD);
+    REFUSED(doorsedge_remove_in_place(&own, elems, ELEMS, shared, SHARED, 1, 1, out), DEAD(FREE_SLOT));
     IS(numbers[DOORSEDGE_GENERATION], own.generation);
 }
 
@@ -375,11 +440,11 @@ static void old_keys(void) {
     IS(doorsedge_remove_element(STATE, 4, 1, out), DOORSEDGE_OK);
     IS(doorsedge_insert_surject(STATE, 21, 210, out), DOORSEDGE_OK);
     HOLDS(out, 4, 2);
-    REFUSED(doorsedge_get(STATE, 4, 1, out), DOORSEDGE_DEAD);
+    REFUSED(doorsedge_get(STATE, 4, 1, out), DEAD(OTHER_GENERATION));
     head[DOORSEDGE_GENERATION] = DOORSEDGE_LAST_GENERATION;
     IS(doorsedge_remove_element(STATE, 4, 2, out), DOORSEDGE_OK);
     HOLDS(out, 21, 1, 210, 1);
-    REFUSED(doorsedge_get(STATE, 4, 1, out), DOORSEDGE_DEAD);
+    REFUSED(doorsedge_get(STATE, 4, 1, out), DEAD(FREE_SLOT));
     IS(doorsedge_insert_surject(STATE, 22, 220, out), DOORSEDGE_OK);
     IS(doorsedge_get(STATE, 4, 1, out), DOORSEDGE_OK);
     HOLDS(out, 22);
@@ -396,7 +461,7 @@ static void old_keys(void) {
         IS(records[i * DOORSEDGE_RECORD + DOORSEDGE_RECORD_OVERFLOW], 0);
     IS(head[DOORSEDGE_GENERATION], 1);
     IS(doorsedge_fresh(head, FRAMES, RUNS, elems, ELEMS, shared, SHARED), DOORSEDGE_OK);
-    REFUSED(doorsedge_get(STATE, 1, 1, out), DOORSEDGE_DEAD);
+    REFUSED(doorsedge_get(STATE, 1, 1, out), DEAD(NO_SLOT));
     IS(doorsedge_insert_surject(STATE, 30, 300, out), DOORSEDGE_OK);
     IS(doorsedge_get(STATE, 1, 1, out), DOORSEDGE_OK);
     HOLDS(out, 30);
@@ -412,7 +477,7 @@ static void key_over_overflow(void) {
     HOLDS(out, 11, 0, 0, 1);
     IS(doorsedge_remove_element(STATE, 1, DOORSEDGE_LAST_GENERATION, out), DOORSEDGE_OK);
     HOLDS(out, 10, 1, 100, 0);
-    REFUSED(doorsedge_get(STATE, 1, DOORSEDGE_LAST_GENERATION, out), DOORSEDGE_DEAD);
+    REFUSED(doorsedge_get(STATE, 1, DOORSEDGE_LAST_GENERATION, out), DEAD(FREE_SLOT));
     head[DOORSEDGE_GENERATION] = DOORSEDGE_LAST_GENERATION; /* so many removals later */
     IS(doorsedge_insert_surject(STATE, 20, 200, out), DOORSEDGE_OK);
     IS(doorsedge_get(STATE, 1, DOORSEDGE_LAST_GENERATION, out), DOORSEDGE_OK);
@@ -422,6 +487,8 @@ static void key_over_overflow(void) {
 int main(void) {
     fresh_and_check();
     reads();
+    lookup();
+    first_dead_key();
     sets();
     exchange();
     seal();

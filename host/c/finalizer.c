@@ -20,9 +20,9 @@ static uint64_t head[DOORSEDGE_HEAD], elems[DOORSEDGE_ELEMS_LEN(FRAMES)], shared
 #define STATE head, elems, DOORSEDGE_ELEMS_LEN(FRAMES), shared, DOORSEDGE_SHARED_LEN(RUNS)
 
 /* Refusals that a correct recorder never meets end it. */
-static void must(const char *what, uint64_t refusal) {
-    if (refusal != DOORSEDGE_OK) {
-        fprintf(stderr, "%s: refused %" PRIu64 "\n", what, refusal);
+static void must(const char *what, uint64_t result) {
+    if (result != DOORSEDGE_OK) {
+        fprintf(stderr, "%s: refused %" PRIu64 " cause %" PRIu64 "\n", what, DOORSEDGE_NUMBER(result), DOORSEDGE_CAUSE(result));
         exit(1);
     }
 }

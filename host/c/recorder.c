@@ -27,9 +27,9 @@ typedef struct {
 #define TABLES(s) (s)->elems, DOORSEDGE_ELEMS_LEN(FRAMES), (s)->shared, DOORSEDGE_SHARED_LEN(RUNS)
 
 /* Refusals that a correct recorder never meets end it. */
-static void must(const char *what, uint64_t refusal) {
-    if (refusal != DOORSEDGE_OK) {
-        fprintf(stderr, "%s: refused %" PRIu64 "\n", what, refusal);
+static void must(const char *what, uint64_t result) {
+    if (result != DOORSEDGE_OK) {
+        fprintf(stderr, "%s: refused %" PRIu64 " cause %" PRIu64 "\n", what, DOORSEDGE_NUMBER(result), DOORSEDGE_CAUSE(result));
         exit(1);
     }
 }
@@ -68,6 +68,20 @@ static void drop_frame(study *s, key k) {
     uint64_t out[4];
     must("remove", doorsedge_remove_element(s->head, TABLES(s), k.slot, k.generation, out));
     printf("dropped picture %" PRIu64 "%s\n", out[0], out[1] ? ", the run's last" : "");
+}
+
+/* What an overlay says of a key that it was handed: whether its frame is there, and if not, why. */
+static void tell(const study *s, const char *whose, key k) {
+    uint64_t result = doorsedge_lookup(s->head, TABLES(s), k.slot, k.generation);
+    if (DOORSEDGE_NUMBER(result) != DOORSEDGE_DEAD)
+        must("lookup", result);
+    const char *why = "its frame is there";
+    switch (DOORSEDGE_CAUSE(result)) {
+    case DOORSEDGE_NO_SLOT: why = "no key of this study"; break;
+    case DOORSEDGE_FREE_SLOT: why = "its frame was dropped"; break;
+    case DOORSEDGE_OTHER_GENERATION: why = "an old key, another frame is in its slot"; break;
+    }
+    printf("%s: %s\n", whose, why);
 }
 
 /* What a viewer shows of a run: its description and its pictures, from the given frame on. */
@@ -130,12 +144,16 @@ int main(void) {
     show_run(&s, kept);
 
     /* a bad frame goes, and its key is refused from then on */
+    tell(&s, "the key of picture 200", right);
     drop_frame(&s, right);
-    uint64_t picture[1];
-    printf("its key then: refused %" PRIu64 "\n", doorsedge_get(s.head, TABLES(&s), right.slot, right.generation, picture));
+    uint64_t picture[1], result = doorsedge_get(s.head, TABLES(&s), right.slot, right.generation, picture);
+    printf("its key then: refused %" PRIu64 " cause %" PRIu64 "\n", DOORSEDGE_NUMBER(result), DOORSEDGE_CAUSE(result));
+    tell(&s, "the key of picture 200", right);
+    tell(&s, "a key that was damaged", (key){right.slot + 1024, right.generation});
 
     /* the free slot goes, and the run is the same under its new keys */
     pack(&s, (key *[]){&left, &left_last}, 2);
+    tell(&s, "the key of picture 200", right);
     printf("the last frame of the left run: key %" PRIu64 " %" PRIu64 "\n", left_last.slot, left_last.generation);
     show_run(&s, left);
 

@@ -43,43 +43,58 @@ impl Key {
 ///
 /// let refusal = Arena::fresh(0, 1).unwrap_err();
 /// assert_eq!((refusal, refusal.number()), (Refusal::Shape, 1));
-/// assert_eq!(Refusal::Dead.to_string(), "refused 3: a key handed in is not live");
+/// assert_eq!(Refusal::Short.to_string(), "refused 7: a buffer has fewer places than needed");
 /// ```
 #[derive(Clone, Copy, PartialEq, Eq, Hash, Debug)]
-#[repr(u8)]
 pub enum Refusal {
     /// A capacity is outside 1 to 65,536, or a table's length is not what its capacity asks.
-    Shape = 1,
+    Shape,
     /// The shape fits, but the state is not sound.
-    Unsound = 2,
-    /// A key handed in is not live.
-    Dead = 3,
+    Unsound,
+    /// A key handed in is not live, and why: of the first such key, in the order of the arguments.
+    Dead(Cause),
     /// Two keys that must be of different runs are of one.
-    SameClass = 4,
+    SameClass,
     /// No element slot up to the capacity is free.
-    NoElement = 5,
+    NoElement,
     /// No shared slot up to the capacity is free.
-    NoShared = 6,
+    NoShared,
     /// A buffer has fewer places than needed.
-    Short = 7,
+    Short,
     /// The run is sealed: it was saved as it stood, no frame may come into it by an insert or a union, and it cannot be
     /// sealed again. What comes too late begins a run of its own.
-    Sealed = 12,
+    Sealed,
 }
 
 impl Refusal {
-    /// The number that the C entries give.
+    /// The number of the refusal: the low eight bits of what the C entries return.
     pub const fn number(self) -> u64 {
-        self as u64
+        match self {
+            Refusal::Shape => 1,
+            Refusal::Unsound => 2,
+            Refusal::Dead(_) => 3,
+            Refusal::SameClass => 4,
+            Refusal::NoElement => 5,
+            Refusal::NoShared => 6,
+            Refusal::Short => 7,
+            Refusal::Sealed => 12,
+        }
     }
 
-    /// What a C entry's result says.
-    pub(crate) fn test(number: u64) -> Result<(), Refusal> {
-        Err(match number {
+    /// Why a key is dead, where that is what the refusal says.
+    pub const fn cause(self) -> Option<Cause> {
+        if let Refusal::Dead(cause) = self { Some(cause) } else { None }
+    }
+
+    /// What a C entry's result says: the cause stands above the number.
+    pub(crate) fn test(result: u64) -> Result<(), Refusal> {
+        Err(match result {
             0 => return Ok(()),
             1 => Refusal::Shape,
             2 => Refusal::Unsound,
-            3 => Refusal::Dead,
+            0x103 => Refusal::Dead(Cause::NoSlot),
+            0x203 => Refusal::Dead(Cause::FreeSlot),
+            0x303 => Refusal::Dead(Cause::OtherGeneration),
             4 => Refusal::SameClass,
             5 => Refusal::NoElement,
             6 => Refusal::NoShared,
@@ -94,9 +109,9 @@ impl Refusal {
 impl fmt::Display for Refusal {
     fn fmt(&self, f: &mut fmt::Formatter<'_>) -> fmt::Result {
         let why = match self {
+            Refusal::Dead(cause) => return write!(f, "refused 3 cause {}: {cause}", cause.number()),
             Refusal::Shape => "a capacity is outside its range, or a table's length does not fit it",
             Refusal::Unsound => "the state is not sound",
-            Refusal::Dead => "a key handed in is not live",
             Refusal::SameClass => "two keys are of one run",
             Refusal::NoElement => "no element slot up to the capacity is free",
             Refusal::NoShared => "no shared slot up to the capacity is free",
@@ -108,6 +123,63 @@ impl fmt::Display for Refusal {
 }
 
 impl error::Error for Refusal {}
+
+/// Why a key is dead. The tests come in this order, so exactly one of the three holds of a key that is not live.
+///
+/// Of a key that was given since the arena was last made, cleared, drained whole or compressed, the cause tells what became
+/// of its frame: it was removed, and its slot is free or was taken again. A key from before, of another arena, or damaged on
+/// its way can have any of the three, and it alone can have the first.
+///
+/// ```
+/// # fn main() -> Result<(), doorsedge::Refusal> {
+/// use doorsedge::{Arena, Cause, Key, Refusal};
+///
+/// let mut arena = Arena::fresh(4, 3)?;
+/// let (first, second) = (arena.insert_surject(10, 100)?, arena.insert_surject(20, 200)?);
+///
+/// // a damaged key: no frame was ever in slot 9
+/// assert_eq!(arena.lookup(Key::new(9, 1)), Err(Refusal::Dead(Cause::NoSlot)));
+/// // a frame that was removed
+/// arena.remove_element(first)?;
+/// assert_eq!(arena.get(first), Err(Refusal::Dead(Cause::FreeSlot)));
+/// // and then another came into its slot
+/// assert_eq!(arena.insert(second, 21)?.slot(), first.slot());
+/// assert_eq!(arena.get(first), Err(Refusal::Dead(Cause::OtherGeneration)));
+/// assert_eq!(arena.get(first).unwrap_err().to_string(), "refused 3 cause 3: a key is dead, another frame is in its slot now");
+/// # Ok(())
+/// # }
+/// ```
+#[derive(Clone, Copy, PartialEq, Eq, PartialOrd, Ord, Hash, Debug)]
+#[repr(u8)]
+pub enum Cause {
+    /// Its slot is 0, or past every slot that has been in use: no key of today. It is from before the arena was last made,
+    /// cleared, drained whole or compressed; or damaged, or of another arena.
+    NoSlot = 1,
+    /// No frame is in its slot: the frame was removed.
+    FreeSlot = 2,
+    /// A frame of another generation is in its slot: the key is old. Its frame was removed and another came into the slot; or
+    /// a compression gave every frame a new key.
+    OtherGeneration = 3,
+}
+
+impl Cause {
+    /// The number that stands above the refusal's in what the C entries return.
+    pub const fn number(self) -> u64 {
+        self as u64
+    }
+}
+
+impl fmt::Display for Cause {
+    fn fmt(&self, f: &mut fmt::Formatter<'_>) -> fmt::Result {
+        f.write_str(match self {
+            Cause::NoSlot => {
+                "a key is dead, no frame has had its slot since the tables were made, cleared or compressed"
+            }
+            Cause::FreeSlot => "a key is dead, no frame is in its slot now",
+            Cause::OtherGeneration => "a key is dead, another frame is in its slot now",
+        })
+    }
+}
 
 /// What [union](crate::Arena::union) answers.
 #[derive(Clone, Copy, PartialEq, Eq, Debug)]

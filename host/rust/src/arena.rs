@@ -147,7 +147,25 @@ impl<T: Tables> Arena<T> {
 
     /// Whether the key is live.
     pub fn contains(&self, key: Key) -> bool {
-        self.get(key).is_ok()
+        self.lookup(key).is_ok()
+    }
+
+    /// Accepted where the key is live; else [Dead](Refusal::Dead) with its [Cause](crate::Cause).
+    ///
+    /// ```
+    /// # fn main() -> Result<(), doorsedge::Refusal> {
+    /// use doorsedge::{Arena, Cause, Key, Refusal};
+    ///
+    /// let mut arena = Arena::fresh(2, 1)?;
+    /// let key = arena.insert_surject(10, 100)?;
+    /// assert_eq!(arena.lookup(key), Ok(()));
+    /// arena.clear()?;
+    /// assert_eq!(arena.lookup(key), Err(Refusal::Dead(Cause::NoSlot)));
+    /// # Ok(())
+    /// # }
+    /// ```
+    pub fn lookup(&self, key: Key) -> Result<(), Refusal> {
+        read!(self, doorsedge_lookup, key.slot(), key.generation())
     }
 
     /// How many frames the key's run has.

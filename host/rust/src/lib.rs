@@ -5,7 +5,7 @@
 //! arena is compressed. Every call tests the tables, and what it cannot do it refuses with a [Refusal], changing nothing.
 //!
 //! ```
-//! use doorsedge::{Arena, Refusal};
+//! use doorsedge::{Arena, Cause, Refusal};
 //!
 //! # fn main() -> Result<(), Refusal> {
 //! let mut arena = Arena::fresh(4, 3)?;
@@ -19,9 +19,9 @@
 //! assert_eq!(arena.list(first)?, [first, other, second]);
 //! assert_eq!(arena.union(other, first), Err(Refusal::SameClass));
 //!
-//! // a removed frame's key is dead
+//! // a removed frame's key is dead, and the refusal says why
 //! assert_eq!(arena.remove_element(other)?.payload, 20);
-//! assert_eq!(arena.get(other), Err(Refusal::Dead));
+//! assert_eq!(arena.get(other), Err(Refusal::Dead(Cause::FreeSlot)));
 //! # Ok(())
 //! # }
 //! ```
@@ -76,7 +76,7 @@ pub mod sys;
 mod tables;
 mod writer;
 
-pub use answers::{Compressed, Joined, Key, Moved, Record, Refusal, Removed, RemovedShared};
+pub use answers::{Cause, Compressed, Joined, Key, Moved, Record, Refusal, Removed, RemovedShared};
 pub use answers::{SealedFrame, SealedHeader, SealedRun};
 pub use arena::Arena;
 pub use tables::{Borrowed, Owned, Tables};

@@ -69,6 +69,16 @@ unsafe extern "C" {
         shared_len: usize,
     ) -> u64;
 
+    pub fn doorsedge_lookup(
+        head: *const Head,
+        elems: *const u64,
+        elems_len: usize,
+        shared: *const u64,
+        shared_len: usize,
+        slot: u64,
+        generation: u64,
+    ) -> u64;
+
     pub fn doorsedge_len_surject(
         head: *const Head,
         elems: *const u64,

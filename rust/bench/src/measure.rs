@@ -74,6 +74,7 @@ pub fn single_calls(n: usize, most: usize) -> Vec<Batch> {
     let four = |i: usize| [0, 1, 2, 3].map(|j| keys[(4 * i + j) % runs]);
     let payload = |i: usize| 1_000 + i as u64;
     vec![
+        batch("lookup", &|i| Call::Lookup(at(i))),
         batch("len_surject", &|i| Call::LenSurject(at(i))),
         batch("in_same_surject", &|i| Call::InSameSurject(at(i), at(i + 1))),
         batch("get", &|i| Call::Get(at(i))),

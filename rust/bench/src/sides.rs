@@ -189,6 +189,7 @@ fn ptr(key: Key) -> P0 {
 /// The call on the rows arena, with as much of the answer as the oracle gives.
 fn step(rows: &mut Rows, call: &Call, lent: &mut [u64]) -> Option<u64> {
     match *call {
+        Call::Lookup(k) => rows.lookup(k).ok().map(|_| 0),
         Call::LenSurject(k) => rows.len_surject(k).ok(),
         Call::InSameSurject(j, k) => rows.in_same_surject(j, k).ok().map(u64::from),
         Call::Get(k) => rows.get(k).ok(),
@@ -217,6 +218,7 @@ fn step(rows: &mut Rows, call: &Call, lent: &mut [u64]) -> Option<u64> {
 /// The call on the oracle, with as much of the answer as it has.
 fn ask(a: &mut Oracle, call: &Call, lent: &mut [u64]) -> Option<u64> {
     Some(match *call {
+        Call::Lookup(k) => a.contains(ptr(k)).then_some(0)?,
         Call::LenSurject(k) => a.len_surject(ptr(k))?.get() as u64,
         Call::InSameSurject(j, k) => a.in_same_surject(ptr(j), ptr(k))? as u64,
         Call::Get(k) => *a.get(ptr(k))?,

@@ -32,9 +32,10 @@ pub enum Call {
     /// On the archive alone; the oracle has none, and is read at the same moment.
     Seal(Name),
     CompressWith(bool),
+    Lookup(Name),
 }
 
-pub const KINDS: [&str; 21] = [
+pub const KINDS: [&str; 22] = [
     "fresh",
     "check",
     "len_surject",
@@ -56,6 +57,7 @@ pub const KINDS: [&str; 21] = [
     "compress_canonical",
     "seal",
     "compress_with",
+    "lookup",
 ];
 
 impl Call {
@@ -83,6 +85,29 @@ impl Call {
             Call::Compress(_) => 18,
             Call::Seal(_) => 19,
             Call::CompressWith(_) => 20,
+            Call::Lookup(_) => 21,
+        }
+    }
+
+    /// The frames whose keys it takes, in the order of its arguments.
+    pub fn keys(&self) -> Vec<Name> {
+        match *self {
+            Call::LenSurject(k)
+            | Call::Get(k)
+            | Call::GetShared(k)
+            | Call::Set(k, _)
+            | Call::SetShared(k, _)
+            | Call::Insert(k, ..)
+            | Call::RemoveElement(k)
+            | Call::RemoveShared(k)
+            | Call::List(k)
+            | Call::Drain(k)
+            | Call::Seal(k)
+            | Call::Lookup(k) => vec![k],
+            Call::InSameSurject(j, k) | Call::Union(j, k) => vec![j, k],
+            Call::Exchange(keys, _) => keys.to_vec(),
+            Call::Fresh | Call::Check | Call::InsertSurject(..) | Call::DrainAll | Call::Clear => vec![],
+            Call::Compress(_) | Call::CompressWith(_) => vec![],
         }
     }
 }
@@ -107,7 +132,8 @@ impl fmt::Display for Call {
             | Call::RemoveShared(k)
             | Call::List(k)
             | Call::Drain(k)
-            | Call::Seal(k) => write!(f, "{kind} {}", Shown(k)),
+            | Call::Seal(k)
+            | Call::Lookup(k) => write!(f, "{kind} {}", Shown(k)),
             Call::InSameSurject(j, k) | Call::Union(j, k) => write!(f, "{kind} {} {}", Shown(j), Shown(k)),
             Call::Set(k, n) | Call::SetShared(k, n) => write!(f, "{kind} {} {n}", Shown(k)),
             Call::Exchange([a, b, c, d], [x, y, z, w]) => {

@@ -27,9 +27,12 @@ impl Pair {
             let Some(frame) = self.frames[name] else { continue };
             let (key, ptr) = (frame.key, frame.ptr);
             let Some(payload) = self.oracle.get(ptr).copied() else {
-                self.is_dead(key)?;
+                self.is_dead(name)?;
                 continue;
             };
+            if has("lookup") {
+                same("lookup", self.port.lookup(key), Ok(()))?;
+            }
             same("payload", self.port.get(key), Ok(payload))?;
             same("payload given", payload, frame.payload)?;
             same("shared value", self.port.get_shared(key), Ok(*self.oracle.get_shared(ptr).unwrap()))?;
@@ -49,33 +52,40 @@ impl Pair {
             }
             for other in 0..self.frames.len() {
                 let (key1, ptr1) = self.keys(other);
-                let wanted = self.oracle.in_same_surject(ptr, ptr1).ok_or(Refusal::Dead);
+                let wanted = self.oracle.in_same_surject(ptr, ptr1).ok_or_else(|| self.dead(&[other]));
                 same("in same", self.port.in_same_surject(key, key1), wanted)?;
             }
         }
         Ok(())
     }
 
-    /// Each call that takes a key refuses a dead one; what changes the tables would show afterwards.
-    fn is_dead(&mut self, key: Key) -> Result<(), String> {
+    /// Each call that takes a key refuses a dead one, and says why; what changes the tables would show afterwards.
+    fn is_dead(&mut self, name: Name) -> Result<(), String> {
+        let (key, dead) = (self.keys(name).0, Some(self.dead(&[name])));
         let live = self.live().next().map_or(key, |name| self.keys(name).0);
-        let (p, dead) = (&mut self.port, Some(Refusal::Dead));
+        let (p, never) = (&mut self.port, Key::new(0, 1));
         let mut all = vec![
             p.len_surject(key).err(),
             p.get(key).err(),
             p.get_shared(key).err(),
             p.in_same_surject(key, live).err(),
             p.in_same_surject(live, key).err(),
+            p.in_same_surject(key, never).err(),
             p.list_into(key, &mut []).err(),
             p.set(key, 1).err(),
             p.set_shared(key, 1).err(),
             p.insert(key, 1).err(),
             p.union(key, live).err(),
             p.union(live, key).err(),
+            p.union(key, never).err(),
             p.remove_element(key).err(),
         ];
         if has("exchange_shared4") {
             all.push(p.exchange_shared4([live, live, live, key], [1; 4]).err());
+            all.push(p.exchange_shared4([live, key, never, live], [1; 4]).err());
+        }
+        if has("lookup") {
+            all.push(p.lookup(key).err());
         }
         if has("remove_shared") {
             all.push(p.remove_shared(key).err());

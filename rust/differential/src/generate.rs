@@ -97,8 +97,8 @@ struct Mix([usize; KINDS.len()]);
 impl Mix {
     fn any(r: &mut Random) -> Mix {
         // fresh to get_shared; set, set_shared, exchange; new run, insert, union; removals; list, drains, clear, compress; seal;
-        // compress_with
-        let usual = [1, 3, 3, 3, 3, 3, 4, 4, 6, 14, 20, 12, 10, 3, 4, 2, 1, 1, 3, 2, 3];
+        // compress_with; lookup
+        let usual = [1, 3, 3, 3, 3, 3, 4, 4, 6, 14, 20, 12, 10, 3, 4, 2, 1, 1, 3, 2, 3, 3];
         Mix(usual.map(|n| n * r.of(&[0, 1, 1, 1, 2, 6])))
     }
 
@@ -167,7 +167,8 @@ fn any_call(pair: &Pair, kind: usize, serial: usize, r: &mut Random) -> Call {
         17 => Call::Clear,
         18 => Call::Compress(r.below(3) == 0),
         19 => Call::Seal(k),
-        _ => Call::CompressWith(r.below(3) == 0),
+        20 => Call::CompressWith(r.below(3) == 0),
+        _ => Call::Lookup(k),
     }
 }
 

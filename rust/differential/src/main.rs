@@ -6,6 +6,7 @@
 //! `differential sample SEQUENCES SEED` writes a fixed sample of the oracle's answers ([sample]).
 
 mod calls;
+mod causes;
 mod compare;
 mod generate;
 mod ordered;
@@ -30,7 +31,7 @@ struct Args {
 }
 
 const USAGE: &str =
-    "usage: differential [CASES] [SEED] [--length N] [--fault equal|run|map|further|seal|ring|pairs|headers]";
+    "usage: differential [CASES] [SEED] [--length N] [--fault equal|run|map|further|seal|ring|pairs|headers|cause]";
 
 fn args() -> Option<Args> {
     let mut args = Args { cases: 20_000, seed: 1, length: 5, fault: Fault::None };
@@ -48,6 +49,7 @@ fn args() -> Option<Args> {
                     "ring" => Fault::SealedElsewhere,
                     "pairs" => Fault::PairsCrossed,
                     "headers" => Fault::HeadersCrossed,
+                    "cause" => Fault::KeysSwapped,
                     _ => return None,
                 }
             }
@@ -75,6 +77,7 @@ impl Progress {
         for (sum, counts) in all.calls.iter_mut().zip(tally.calls) {
             sum.iter_mut().zip(counts).for_each(|(sum, n)| *sum += n);
         }
+        all.causes.iter_mut().zip(tally.causes).for_each(|(sum, n)| *sum += n);
         all.longest_ring = all.longest_ring.max(tally.longest_ring);
         all.largest_union = all.largest_union.max(tally.largest_union);
         if self.shown.elapsed() > Duration::from_millis(200) {
@@ -135,6 +138,8 @@ fn summary(args: &Args, way: &Way, progress: &Progress) {
         tally.sequences,
         tally.compared
     );
+    let [none, free, old] = tally.causes;
+    println!("{:<20}{none:>12} no slot{free:>12} free slot{old:>12} other generation", "refused 3 by cause");
     println!("{:<20}{:>12}", "longest ring", tally.longest_ring);
     println!("{:<20}{:>12}", "largest union", tally.largest_union);
     let side = if way.ordered { "the same: rings in order" } else { "DIFFERENT: rings as sets" };

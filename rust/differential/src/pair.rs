@@ -39,6 +39,8 @@ pub enum Fault {
     PairsCrossed,
     /// A compression in slot order leaves the last two headers in each other's slots.
     HeadersCrossed,
+    /// Whether two frames are of one run is asked with their keys the other way round.
+    KeysSwapped,
 }
 
 /// What was met.
@@ -47,6 +49,8 @@ pub struct Tally {
     pub sequences: u64,
     /// By kind: accepted, dead, same class, sealed.
     pub calls: [[u64; 4]; KINDS.len()],
+    /// The dead ones by their cause.
+    pub causes: [u64; 3],
     pub longest_ring: u64,
     pub largest_union: u64,
     pub compared: u64,
@@ -60,6 +64,8 @@ pub struct Pair {
     /// The name that was last given to a slot of the archive, and to one of the oracle.
     by_key: Vec<Name>,
     by_ptr: Vec<Name>,
+    /// The highest slot that the archive gave since the tables were last made, emptied or compressed.
+    pub extent: u64,
     /// The frames that accepted seals wrote: no frame comes into their runs, so those that live are the sealed runs' frames.
     pub sealed: HashSet<Name>,
     /// Whether both sides put a new frame on the same side of its target.
@@ -91,6 +97,7 @@ impl Pair {
             frames: vec![],
             by_key,
             by_ptr,
+            extent: 0,
             sealed: HashSet::new(),
             ordered,
             fault,
@@ -135,10 +142,17 @@ impl Pair {
         self.frames[name] = Some(Frame { key, ptr, payload });
         self.by_key[key.slot() as usize] = name;
         self.by_ptr[ptr.inx().get()] = name;
+        self.extent = self.extent.max(key.slot());
         Ok(())
     }
 
+    /// The frame that was last put into a slot of the archive.
+    pub fn last_in(&self, slot: u64) -> Name {
+        self.by_key[slot as usize]
+    }
+
     pub fn forget(&mut self) {
+        self.extent = 0;
         self.by_key.fill(NEVER);
         self.by_ptr.fill(NEVER);
     }
@@ -189,7 +203,10 @@ impl Pair {
         };
         let column = match refusal {
             None => 0,
-            Some(Refusal::Dead) => 1,
+            Some(Refusal::Dead(cause)) => {
+                self.tally.causes[cause as usize - 1] += 1;
+                1
+            }
             Some(Refusal::SameClass) => 2,
             Some(Refusal::Sealed) => 3,
             Some(other) => return Err(format!("the archive says {other}")),
@@ -199,7 +216,7 @@ impl Pair {
     }
 
     fn read_or_set(&mut self, call: &Call) -> Result<Option<Refusal>, String> {
-        let dead = Refusal::Dead;
+        let dead = self.dead(&call.keys());
         let (port, oracle) = (&mut self.port, &mut self.oracle);
         let frames = &self.frames;
         let keys = |name: Name| match frames.get(name) {
@@ -216,8 +233,16 @@ impl Pair {
                 same("len", said, oracle.len_surject(keys(k).1).map(|n| n.get() as u64).ok_or(dead))?;
                 Ok(said.err())
             }
+            Call::Lookup(k) => {
+                let said = port.lookup(keys(k).0);
+                same("lookup", said, if oracle.contains(keys(k).1) { Ok(()) } else { Err(dead) })?;
+                Ok(said.err())
+            }
             Call::InSameSurject(j, k) => {
-                let said = port.in_same_surject(keys(j).0, keys(k).0);
+                let said = match self.fault {
+                    Fault::KeysSwapped => port.in_same_surject(keys(k).0, keys(j).0),
+                    _ => port.in_same_surject(keys(j).0, keys(k).0),
+                };
                 same("in same", said, oracle.in_same_surject(keys(j).1, keys(k).1).ok_or(dead))?;
                 Ok(said.err())
             }
@@ -281,6 +306,7 @@ impl Pair {
     }
 
     fn put_in(&mut self, call: &Call) -> Result<Option<Refusal>, String> {
+        let dead = self.dead(&call.keys());
         match *call {
             Call::Fresh => {
                 let (elems, shared) = (self.oracle.capacity(), self.oracle.capacity_shared());
@@ -315,7 +341,8 @@ impl Pair {
                         self.learn(name, key, ptr, payload)?;
                         Ok(None)
                     }
-                    (Err(Refusal::Dead), Err(triple_arena::errors::ChainInsertionError::FailedLinkRequirement)) => {
+                    (Err(refusal), Err(triple_arena::errors::ChainInsertionError::FailedLinkRequirement)) => {
+                        same("insert's refusal", refusal, dead)?;
                         Ok(said.err())
                     }
                     _ => Err(format!("insert: archive {said:?}, oracle {new:?}")),
@@ -328,7 +355,7 @@ impl Pair {
     fn union(&mut self, j: Name, k: Name) -> Result<Option<Refusal>, String> {
         let ((key0, ptr0), (key1, ptr1)) = (self.keys(j), self.keys(k));
         let sizes = (self.oracle.len_surject(ptr0), self.oracle.len_surject(ptr1));
-        let equal = sizes.0.is_some() && sizes.0 == sizes.1;
+        let (equal, dead) = (sizes.0.is_some() && sizes.0 == sizes.1, self.dead(&[j, k]));
         let classes = |port: &Arena| port.elems().chunks(FRAME).map(|row| row[2]).collect::<Vec<_>>();
         let before = classes(&self.port);
         let said = match self.fault {
@@ -354,7 +381,7 @@ impl Pair {
             }
             (Err(refusal), None) => {
                 let live = sizes.0.is_some() && sizes.1.is_some();
-                same("union's refusal", refusal, if live { Refusal::SameClass } else { Refusal::Dead })?;
+                same("union's refusal", refusal, if live { Refusal::SameClass } else { dead })?;
                 Ok(Some(refusal))
             }
             (said, oracle) => Err(format!("union: archive {said:?}, oracle {oracle:?}")),
@@ -362,7 +389,7 @@ impl Pair {
     }
 
     fn take_out(&mut self, call: &Call) -> Result<Option<Refusal>, String> {
-        let dead = Refusal::Dead;
+        let dead = self.dead(&call.keys());
         match *call {
             Call::RemoveElement(k) => {
                 let (key, ptr) = self.keys(k);
@@ -394,7 +421,7 @@ impl Pair {
                 let wanted = self.oracle.drain_surject(ptr).map(|drain| drain.map(|o| o.allow()).collect::<Vec<_>>());
                 match (&said, wanted) {
                     (Ok(records), Some(wanted)) => self.same_drain(records, &wanted)?,
-                    (Err(Refusal::Dead), None) => (),
+                    (Err(refusal), None) => same("drain's refusal", *refusal, dead)?,
                     (_, wanted) => return Err(format!("drain: archive {said:?}, oracle {wanted:?}")),
                 }
                 Ok(said.err())
@@ -427,10 +454,12 @@ impl Pair {
                 let said = self.port.drain_all().map_err(|refusal| refusal.to_string())?;
                 let wanted: Vec<_> = self.oracle.drain_combined().map(|o| o.allow()).collect();
                 self.same_runs(&said, &wanted)?;
+                self.extent = 0;
             }
             Call::Clear => {
                 same("clear", self.port.clear(), Ok(false))?;
                 self.oracle.clear().allow();
+                self.extent = 0;
             }
             Call::Compress(reset) => {
                 same("compression", self.port.compress_canonical(reset), Ok(false))?;

@@ -114,6 +114,7 @@ fn renamed(case: &Case) -> Case {
         Call::List(k) => Call::List(name(k)),
         Call::Drain(k) => Call::Drain(name(k)),
         Call::Seal(k) => Call::Seal(name(k)),
+        Call::Lookup(k) => Call::Lookup(name(k)),
         Call::Fresh | Call::Check | Call::DrainAll | Call::Clear | Call::Compress(_) | Call::CompressWith(_) => *call,
     });
     Case { calls: calls.collect(), ..case.clone() }

@@ -22,8 +22,8 @@
 //! | 17 clear | | | |
 //! | 18 compress_canonical | | 1 for a reset, else 0 | |
 //!
-//! A frame's payload is its name whenever tables are compressed, so that keys can be learned again from payloads. Seals and
-//! compressions in slot order are not in a sample: the program that replays it knows no such record.
+//! A frame's payload is its name whenever tables are compressed, so that keys can be learned again from payloads. Seals,
+//! compressions in slot order and lookups are not in a sample, and causes neither: the program that replays it knows none.
 
 use crate::calls::{Call, Case, NEVER, Name};
 use crate::generate::{Random, apart};
@@ -118,14 +118,7 @@ fn answered(pair: &Pair, call: &Call) -> (u64, Vec<u64>) {
     let value = |name: Name| *a.get_shared(ptr(name)).unwrap();
     let ring = |name: Name| a.iter_surject(ptr(name)).unwrap().map(|(p, _, _)| pair.name_of_ptr(p) as u64).collect();
     let same = |j: Name, k: Name| a.in_same_surject(ptr(j), ptr(k)) == Some(true);
-    let keys: &[Name] = match call {
-        Call::InSameSurject(j, k) | Call::Union(j, k) => &[*j, *k],
-        Call::Exchange(keys, _) => keys,
-        Call::LenSurject(k) | Call::Get(k) | Call::GetShared(k) | Call::Set(k, _) | Call::SetShared(k, _) => &[*k],
-        Call::Insert(k, ..) | Call::RemoveElement(k) | Call::RemoveShared(k) | Call::List(k) | Call::Drain(k) => &[*k],
-        _ => &[],
-    };
-    if dead(keys) {
+    if dead(&call.keys()) {
         return (3, vec![]);
     }
     let answers = match *call {
@@ -174,7 +167,7 @@ fn push(bytes: &mut Vec<u8>, call: &Call, refusal: u64, answers: &[u64]) {
         Call::RemoveElement(k) | Call::RemoveShared(k) | Call::List(k) | Call::Drain(k) => (&[*k], &[]),
         Call::Compress(reset) => (&[], &[*reset as u64]),
         Call::Fresh | Call::Check | Call::DrainAll | Call::Clear => (&[], &[]),
-        Call::Seal(_) | Call::CompressWith(_) => unreachable!("a sample has no such call"),
+        Call::Seal(_) | Call::CompressWith(_) | Call::Lookup(_) => unreachable!("a sample has no such call"),
     };
     for (byte, name) in record[1..5].iter_mut().zip(names) {
         *byte = u8::try_from(*name).unwrap_or(255);

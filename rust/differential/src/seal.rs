@@ -19,7 +19,7 @@ impl Pair {
         let (key, ptr) = self.keys(k);
         let Some(ring) = self.oracle.iter_surject(ptr) else {
             let said = self.port.seal_into(key, &mut []).err();
-            same("seal", said, Some(Refusal::Dead))?;
+            same("seal", said, Some(self.dead(&[k])))?;
             return Ok(said);
         };
         let mut wanted: Vec<(Name, u64)> = ring.map(|(p, t, _)| (self.name_of_ptr(p), *t)).collect();

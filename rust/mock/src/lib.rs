@@ -111,6 +111,20 @@ pub unsafe extern "C" fn doorsedge_exchange_shared4(
     }
 }
 
+#[unsafe(no_mangle)]
+pub unsafe extern "C" fn doorsedge_lookup(
+    head: *const u64,
+    elems: *const u64,
+    elems_len: usize,
+    shared: *const u64,
+    shared_len: usize,
+    slot: u64,
+    generation: u64,
+) -> u64 {
+    let (call, none) = (Call::Lookup(key(slot, generation)), std::ptr::null_mut());
+    unsafe { enter(head, elems, elems_len, shared, shared_len, call, none, 0, none) }
+}
+
 entry!(doorsedge_len_surject(slot, generation) => Call::LenSurject(key(slot, generation)));
 entry!(doorsedge_in_same_surject(slot0, generation0, slot1, generation1) => Call::InSameSurject(key(slot0, generation0), key(slot1, generation1)));
 entry!(doorsedge_get(slot, generation) => Call::Get(key(slot, generation)));

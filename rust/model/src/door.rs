@@ -10,6 +10,7 @@ pub enum Call {
         shared: u64,
     },
     Check,
+    Lookup(Key),
     LenSurject(Key),
     InSameSurject(Key, Key),
     Get(Key),
@@ -42,7 +43,7 @@ pub enum Call {
 }
 
 /// How many kinds of calls there are.
-pub const KINDS: usize = 23;
+pub const KINDS: usize = 24;
 
 impl Call {
     /// The entry's name in C, without its prefix; and how many numbers its `out` has.
@@ -50,6 +51,7 @@ impl Call {
         match self {
             Call::Fresh { .. } => ("fresh", 0),
             Call::Check => ("check", 0),
+            Call::Lookup(_) => ("lookup", 0),
             Call::LenSurject(_) => ("len_surject", 1),
             Call::InSameSurject(..) => ("in_same_surject", 1),
             Call::Get(_) => ("get", 1),
@@ -78,7 +80,7 @@ impl Call {
 /// Which soundness test the door makes: [crate::check::sound], or [crate::sets::sound] for a reference.
 pub type Sound = fn(&Head, &[u64], &[u64]) -> bool;
 
-/// Makes a call on the numbers of a host. Answers 0, or the refusal's number with nothing changed.
+/// Makes a call on the numbers of a host. Answers 0, or the refusal's number, with the cause of 3 above it, and nothing changed.
 pub fn run(
     sound: Sound,
     head: &mut [u64; HEAD],
@@ -102,7 +104,7 @@ pub fn run(
             out[..count].copy_from_slice(&values[..count]);
             0
         }
-        Err(refusal) => refusal as u64,
+        Err(refusal) => refusal.result(),
     }
 }
 
@@ -140,6 +142,7 @@ pub fn said(rows: &mut Rows, call: &Call, lent: &mut [u64]) -> Result<[u64; 4], 
     Ok(match *call {
         Call::Fresh { .. } => unreachable!("fresh has its own door"),
         Call::Check => [0; 4],
+        Call::Lookup(k) => rows.lookup(k).map(|_| [0; 4])?,
         Call::LenSurject(k) => one(rows.len_surject(k)?),
         Call::InSameSurject(j, k) => one(rows.in_same_surject(j, k)? as u64),
         Call::Get(k) => one(rows.get(k)?),

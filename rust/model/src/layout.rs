@@ -51,17 +51,49 @@ pub struct Key {
     pub generation: u64,
 }
 
-/// Numbers given on refusal.
+/// Why a key is dead: document 02, ticket 5. Tested in this order.
+#[derive(Clone, Copy, PartialEq, Eq, Debug)]
+pub enum Cause {
+    /// The slot is 0 or past the extent.
+    NoSlot = 1,
+    FreeSlot = 2,
+    OtherGeneration = 3,
+}
+
 #[derive(Clone, Copy, PartialEq, Eq, Debug)]
 pub enum Refusal {
-    Shape = 1,
-    Unsound = 2,
-    Dead = 3,
-    SameClass = 4,
-    NoElement = 5,
-    NoShared = 6,
-    Short = 7,
-    Sealed = 12,
+    Shape,
+    Unsound,
+    Dead(Cause),
+    SameClass,
+    NoElement,
+    NoShared,
+    Short,
+    Sealed,
+}
+
+impl Refusal {
+    /// Numbers given on refusal.
+    pub const fn number(self) -> u64 {
+        match self {
+            Refusal::Shape => 1,
+            Refusal::Unsound => 2,
+            Refusal::Dead(_) => 3,
+            Refusal::SameClass => 4,
+            Refusal::NoElement => 5,
+            Refusal::NoShared => 6,
+            Refusal::Short => 7,
+            Refusal::Sealed => 12,
+        }
+    }
+
+    /// What a C entry returns: the number in the low eight bits, and above them the cause of 3.
+    pub const fn result(self) -> u64 {
+        match self {
+            Refusal::Dead(cause) => self.number() + 256 * cause as u64,
+            _ => self.number(),
+        }
+    }
 }
 
 impl Pool {

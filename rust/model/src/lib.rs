@@ -19,5 +19,5 @@ pub mod rows;
 pub mod sets;
 pub mod whole;
 
-pub use layout::{FRAME, HEAD, HEADER, Head, Key, PAIR, PLACE, Pool, RECORD, Refusal, SEAL_PLACE};
+pub use layout::{Cause, FRAME, HEAD, HEADER, Head, Key, PAIR, PLACE, Pool, RECORD, Refusal, SEAL_PLACE};
 pub use rows::{Joined, Removed, Rows};

@@ -50,16 +50,17 @@ impl Rows<'_> {
         self.shared[(slot as usize - 1) * HEADER..][..HEADER].copy_from_slice(&row);
     }
 
-    /// The slot of a live key.
+    /// The slot of a live key, or why it is dead. A call with several keys asks in their order, so that it tells the cause of
+    /// the first dead one.
     pub fn find(&self, key: Key) -> Result<u64, Refusal> {
         if key.slot == 0 || key.slot > self.head.elems.extent {
-            return Err(Refusal::Dead);
+            return Err(Refusal::Dead(Cause::NoSlot));
         }
-        let generation = self.elem(key.slot, GENERATION);
-        if generation == 0 || generation != key.generation {
-            return Err(Refusal::Dead);
+        match self.elem(key.slot, GENERATION) {
+            0 => Err(Refusal::Dead(Cause::FreeSlot)),
+            generation if generation != key.generation => Err(Refusal::Dead(Cause::OtherGeneration)),
+            _ => Ok(key.slot),
         }
-        Ok(key.slot)
     }
 
     pub fn class(&self, slot: u64) -> u64 {
@@ -113,6 +114,11 @@ impl Rows<'_> {
     }
 
     // ---- reads and sets
+
+    /// Accepted where the key is live.
+    pub fn lookup(&self, key: Key) -> Result<(), Refusal> {
+        self.find(key).map(|_| ())
+    }
 
     pub fn len_surject(&self, key: Key) -> Result<u64, Refusal> {
         Ok(self.size(self.find(key)?))

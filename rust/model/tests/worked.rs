@@ -42,6 +42,11 @@ fn key(slot: u64, generation: u64) -> Key {
     Key { slot, generation }
 }
 
+/// Refusal 3 with this cause, as an entry returns it.
+fn dead(cause: u64) -> u64 {
+    3 + 256 * cause
+}
+
 fn new_run(payload: u64, value: u64) -> Call {
     Call::InsertSurject { payload, value }
 }
@@ -59,7 +64,7 @@ fn p1_to_p10() {
     assert_eq!(host.call(Call::Union(key(4, 1), key(1, 1))), (0, vec![200, 1, 1, 1]));
     assert_eq!(host.ring(key(1, 1)), [1, 4, 3, 2]);
     assert_eq!(host.call(Call::Union(key(4, 1), key(4, 1))), (4, vec![]));
-    assert_eq!(host.call(Call::Union(key(5, 1), key(1, 1))), (3, vec![]));
+    assert_eq!(host.call(Call::Union(key(5, 1), key(1, 1))), (dead(1), vec![]));
     assert_eq!(host.call(Call::RemoveElement(key(4, 1))), (0, vec![20, 0, 0, 0]));
     assert_eq!(host.head[8], 2);
     assert_eq!(host.call(new_run(21, 210)), (0, vec![4, 2]));
@@ -117,6 +122,41 @@ fn mixed_rings_are_unsound() {
     assert_eq!(host.call(Call::Check), (0, vec![]));
 }
 
+/// Document 02's ticket 5: slot 1 is free, slot 2 was taken again, slot 3 is past the extent. Tested in the order 1, 2, 3; of
+/// several keys the first dead one's cause.
+#[test]
+fn causes() {
+    let mut host = Host::fresh(4, 3);
+    assert_eq!(host.call(Call::Lookup(key(1, 1))), (dead(1), vec![]));
+    let calls = [new_run(10, 100), new_run(20, 200), Call::RemoveElement(key(1, 1)), Call::RemoveElement(key(2, 1))];
+    for call in calls.into_iter().chain([new_run(30, 300)]) {
+        assert_eq!(host.call(call).0, 0);
+    }
+    assert_eq!(host.ring(key(2, 3)), [2]);
+    for (k, result) in [
+        (key(2, 3), 0),
+        (key(0, 0), dead(1)),
+        (key(3, 0), dead(1)),
+        (key(u64::MAX, u64::MAX), dead(1)),
+        (key(1, 1), dead(2)),
+        (key(1, 0), dead(2)),
+        (key(1, u64::MAX), dead(2)),
+        (key(2, 1), dead(3)),
+        (key(2, 0), dead(3)),
+        (key(2, u64::MAX), dead(3)),
+    ] {
+        assert_eq!(host.call(Call::Lookup(k)), (result, vec![]), "{k:?}");
+    }
+    let (live, free, old) = (key(2, 3), key(1, 1), key(2, 1));
+    for (keys, result) in [([live, old], 3), ([old, free], 3), ([free, old], 2), ([free, key(0, 1)], 2)] {
+        assert_eq!(host.call(Call::Union(keys[0], keys[1])), (dead(result), vec![]));
+        assert_eq!(
+            host.call(Call::ExchangeShared4([live, keys[0], keys[1], key(9, 9)], [0; 4])),
+            (dead(result), vec![])
+        );
+    }
+}
+
 /// Document 02's ticket 1: value, count, keys and payloads in one call; from then on 12, after 3 and 4, before 5 and 7.
 #[test]
 fn seal() {
@@ -131,14 +171,14 @@ fn seal() {
     assert_eq!(places, [3, 1, 12, 2, 1, 11, 1, 1, 10, 9]);
     assert_eq!(host.shared, [[3, 100, 0, 1], [1, 200, 0, 0], [0; HEADER]].concat());
     for (call, number) in [
-        (Call::Insert(key(2, 2), 13), 3),
-        (Call::Union(key(1, 1), key(5, 1)), 3),
+        (Call::Insert(key(2, 2), 13), dead(3)),
+        (Call::Union(key(1, 1), key(5, 1)), dead(1)),
         (Call::Union(key(1, 1), key(2, 1)), 4),
         (Call::Insert(key(2, 1), 13), 12),
         (Call::Insert(key(4, 1), 13), 5),
         (Call::Union(key(1, 1), key(4, 1)), 12),
         (Call::Union(key(4, 1), key(1, 1)), 12),
-        (Call::Seal(key(4, 2)), 3),
+        (Call::Seal(key(4, 2)), dead(3)),
         (Call::Seal(key(2, 1)), 12),
         (Call::Seal(key(4, 1)), 7),
     ] {

@@ -43,6 +43,7 @@ pub unsafe fn run_at(lent: Lent, call: &Call) -> u64 {
         match *call {
             Call::Fresh { elems, shared } => doorsedge_fresh(h, elems, shared, e, en, s, sn),
             Call::Check => doorsedge_check(h, e, en, s, sn),
+            Call::Lookup(k) => doorsedge_lookup(h, e, en, s, sn, k.slot, k.generation),
             Call::LenSurject(k) => doorsedge_len_surject(h, e, en, s, sn, k.slot, k.generation, o.cast()),
             Call::InSameSurject(j, k) => {
                 doorsedge_in_same_surject(h, e, en, s, sn, j.slot, j.generation, k.slot, k.generation, o.cast())
@@ -94,9 +95,23 @@ pub struct Host {
 /// A call's result, `out` and lent buffer after it.
 #[derive(Clone, PartialEq, Eq, Debug)]
 pub struct Said {
+    /// The low eight bits of the result.
     pub number: u64,
+    /// All that stands above them.
+    pub cause: u64,
     pub out: [u64; 4],
     pub lent: Vec<u64>,
+}
+
+impl Said {
+    fn set_result(&mut self, result: u64) {
+        (self.number, self.cause) = (result & 255, result >> 8);
+    }
+
+    /// What the entry returned.
+    pub fn result(&self) -> u64 {
+        self.number + (self.cause << 8)
+    }
 }
 
 impl Host {
@@ -118,19 +133,21 @@ impl Host {
     /// The same with another soundness test for the model.
     pub fn call_with(&mut self, sound: door::Sound, call: Call, lent: &[u64]) -> Said {
         let before = self.clone();
-        let mut expected = (self.clone(), Said { number: 0, out: [UNTOUCHED; 4], lent: lent.to_vec() });
+        let mut expected = (self.clone(), Said { number: 0, cause: 0, out: [UNTOUCHED; 4], lent: lent.to_vec() });
         let mut said = expected.1.clone();
-        said.number = run(&mut self.head, &mut self.elems, &mut self.shared, &call, &mut said.lent, &mut said.out);
+        let result = run(&mut self.head, &mut self.elems, &mut self.shared, &call, &mut said.lent, &mut said.out);
+        said.set_result(result);
         let (host, wanted) = (&mut expected.0, &mut expected.1);
         let (h, e, s) = (&mut host.head, &mut host.elems, &mut host.shared);
-        wanted.number = door::run(sound, h, e, s, &call, &mut wanted.lent, &mut wanted.out);
+        let result = door::run(sound, h, e, s, &call, &mut wanted.lent, &mut wanted.out);
+        wanted.set_result(result);
         if said.number == ABSENT {
             // nothing to compare: the model's outcome stands
             *self = expected.0;
             return expected.1;
         }
         let same = *self == *host && said == *wanted;
-        let kept = said.number == 0 || *self == before && said.out == [UNTOUCHED; 4] && said.lent == lent;
+        let kept = said.result() == 0 || *self == before && said.out == [UNTOUCHED; 4] && said.lent == lent;
         if !same || !kept {
             panic!(
                 "{call:?} differs\nbefore  {before:?}\nlent    {lent:?}\narchive {self:?}\n        {said:?}\nmodel   {host:?}\n        {wanted:?}"
@@ -154,6 +171,7 @@ pub fn key(slot: u64, generation: u64) -> Key {
 pub fn every_call(j: Key, k: Key) -> Vec<Call> {
     vec![
         Call::Check,
+        Call::Lookup(k),
         Call::LenSurject(k),
         Call::InSameSurject(j, k),
         Call::Get(k),

@@ -3,7 +3,7 @@
 
 use crate::{Host, key};
 use model::door::{Call, KINDS};
-use model::{FRAME, HEADER, Key, PAIR, PLACE, RECORD, Refusal, SEAL_PLACE};
+use model::{FRAME, HEADER, Key, PAIR, PLACE, RECORD, SEAL_PLACE};
 use std::collections::BTreeMap;
 use std::fmt;
 
@@ -44,22 +44,24 @@ impl Random {
     }
 }
 
-/// Calls by entry: accepted, and by refusal's number.
+/// Calls by entry and by what it returned.
 #[derive(Default)]
-pub struct Tally(pub BTreeMap<&'static str, [u64; REFUSALS]>);
+pub struct Tally(pub BTreeMap<&'static str, BTreeMap<u64, u64>>);
 
-/// One more than the highest number of a refusal.
-pub const REFUSALS: usize = Refusal::Sealed as usize + 1;
-/// The numbers that an entry can give, in their columns.
-const GIVEN: [usize; 9] = [0, 1, 2, 3, 4, 12, 6, 5, 7];
+/// What an entry can return but 0, in its columns: number and cause.
+pub const GIVEN: [(u64, u64); 10] = [(1, 0), (2, 0), (3, 1), (3, 2), (3, 3), (4, 0), (12, 0), (6, 0), (5, 0), (7, 0)];
 
 impl fmt::Display for Tally {
     fn fmt(&self, f: &mut fmt::Formatter<'_>) -> fmt::Result {
         write!(f, "{:<19}{:>9}", "entry", "accepted")?;
-        GIVEN[1..].iter().try_for_each(|n| write!(f, "{:>9}", format!("ref. {n}")))?;
+        for (number, cause) in GIVEN {
+            let name = if cause == 0 { format!("ref. {number}") } else { format!("3 by {cause}") };
+            write!(f, "{name:>9}")?;
+        }
         for (name, counts) in &self.0 {
-            write!(f, "\n{name:<19}")?;
-            GIVEN.iter().try_for_each(|n| write!(f, "{:>9}", counts[*n]))?;
+            let count = |result| counts.get(&result).unwrap_or(&0);
+            write!(f, "\n{name:<19}{:>9}", count(0))?;
+            GIVEN.iter().try_for_each(|(number, cause)| write!(f, "{:>9}", count(number + 256 * cause)))?;
         }
         Ok(())
     }
@@ -80,7 +82,7 @@ pub fn compare(calls: u64, seed: u64) -> Tally {
         let call = any_call(&host, &mut r);
         let lent = any_buffer(&host, &call, &mut r);
         let said = host.call(call, &lent);
-        tally.0.entry(call.name().0).or_default()[said.number as usize] += 1;
+        tally.0.entry(call.name().0).or_default().entry(said.result()).and_modify(|n| *n += 1).or_insert(1);
         // a changed state that is sound all the same is grown from there
         if way > 2 || way > 0 && said.number == 0 {
             grown = host;
@@ -188,7 +190,8 @@ pub(crate) fn any_call(host: &Host, r: &mut Random) -> Call {
         20 => Call::RemoveInPlace(k),
         21 => Call::Seal(k),
         22 => Call::CompressWith { reset: r.of(&[0, 0, 1, a]) },
-        n if n < 30 => Call::InsertSurject { payload: a, value: b },
+        23 => Call::Lookup(k),
+        n if n < 31 => Call::InsertSurject { payload: a, value: b },
         _ => Call::Insert(k, a),
     }
 }

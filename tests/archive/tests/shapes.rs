@@ -211,8 +211,17 @@ fn each_sentence_of_soundness() {
 fn random_numbers() {
     let tally = compare(1_000_000, 20_261);
     for (name, counts) in tally.0 {
-        assert!(counts[0] > 0 && counts[1..].iter().any(|&n| n > 0), "{name}: {counts:?}");
+        let had = |result: u64| counts.contains_key(&result);
+        assert!(had(0) && counts.len() > 1, "{name}: {counts:?}");
         let sealed = ["insert", "insert_in_place", "union", "seal"].contains(&name);
-        assert_eq!(counts[12] > 0, sealed, "{name}: {counts:?}");
+        assert_eq!(had(12), sealed, "{name}: {counts:?}");
+        // each entry with a key tells each cause, and no entry tells 3 without one
+        let keyless = ["check", "clear", "compress_canonical", "compress_with", "drain_all", "fresh", "insert_surject"];
+        let causes = [0, 1, 2, 3, 4].map(|cause| had(3 + 256 * cause));
+        assert_eq!(
+            causes,
+            [false, true, true, true, false].map(|told| told && !keyless.contains(&name)),
+            "{name}: {counts:?}"
+        );
     }
 }

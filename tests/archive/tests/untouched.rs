@@ -22,6 +22,7 @@ unsafe extern "C" {
 
 const READ: c_int = 1;
 const WRITE: c_int = 2;
+const SHARED: c_int = 1;
 const PRIVATE: c_int = 2;
 const ANONYMOUS: c_int = if cfg!(target_os = "linux") { 0x20 } else { 0x1000 };
 const PAGE: usize = 65_536;
@@ -35,9 +36,14 @@ struct Pages {
 
 impl Pages {
     fn of(numbers: &[u64]) -> Pages {
+        Pages::with(numbers, PRIVATE)
+    }
+
+    /// The same, of which a child process writes its parent's own where they are shared.
+    fn with(numbers: &[u64], kind: c_int) -> Pages {
         let (count, bytes) = (numbers.len(), (8 * numbers.len()).next_multiple_of(PAGE).max(PAGE));
         // Safety: new pages, as many as hold the numbers
-        let start = unsafe { mmap(null_mut(), bytes, READ | WRITE, PRIVATE | ANONYMOUS, -1, 0) };
+        let start = unsafe { mmap(null_mut(), bytes, READ | WRITE, kind | ANONYMOUS, -1, 0) };
         assert_ne!(start.addr(), usize::MAX, "no pages");
         let start: *mut u64 = start.cast();
         unsafe { start.copy_from_nonoverlapping(numbers.as_ptr(), count) };
@@ -94,18 +100,21 @@ fn is_fault(end: &End) -> bool {
 /// How a child process ends that makes the call.
 fn end(parts: &Parts, call: &Call) -> End {
     let lent = parts.lent();
+    // an exit code has eight bits alone, and a result's cause stands above them
+    let result = Pages::with(&[UNTOUCHED], SHARED);
     let mut status = 0;
     // Safety: the child does nothing but the call, over pages that are apart
     unsafe {
         let child = fork();
         assert!(child >= 0, "no process");
         if child == 0 {
-            _exit(run_at(lent, call) as c_int);
+            result.start.write(run_at(lent, call));
+            _exit(0);
         }
         assert_eq!(waitpid(child, &mut status, 0), child);
     }
     match status & 0x7F {
-        0 => End::Said((status >> 8) as u64 & 0xFF),
+        0 => End::Said(result.numbers()[0]),
         signal => End::Signal(signal),
     }
 }
@@ -128,8 +137,8 @@ fn two_runs(elems: u64, shared: u64) -> Host {
     host
 }
 
-/// Sound ones with room, without an element slot, without a shared slot and without either, empty ones, and ones with a
-/// sealed run; then unsound ones, and ones that do not fit.
+/// Sound ones with room, without an element slot, without a shared slot and without either, empty ones, ones with a free
+/// slot, and ones with a sealed run; then unsound ones, and ones that do not fit.
 fn hosts() -> Vec<Host> {
     let changed = |change: fn(&mut Host)| {
         let mut host = two_runs(4, 3);
@@ -142,6 +151,7 @@ fn hosts() -> Vec<Host> {
         two_runs(4, 2),
         two_runs(3, 2),
         Host::fresh(4, 3),
+        changed(|host| drop(host.call(Call::RemoveElement(key(3, 1)), &[]))),
         changed(|host| host.shared[MARK] = 1),
         changed(|host| host.head[3] += 1),
         changed(|host| host.head[8] = 0),
@@ -167,7 +177,7 @@ fn calls(j: Key, k: Key) -> Vec<Call> {
 const KEYS: [[(u64, u64); 2]; 5] =
     [[(1, 1), (2, 1)], [(1, 1), (3, 1)], [(2, 1), (3, 2)], [(0, 1), (2, 1)], [(4, 1), (9, 9)]];
 
-/// Entry and number of each refusal that include/doorsedge.h lists.
+/// Entry and result of each refusal that include/doorsedge.h lists: of 3 a result for each cause.
 fn listed() -> BTreeSet<(String, u64)> {
     let mut numbers = vec![];
     let mut listed = BTreeSet::new();
@@ -177,7 +187,8 @@ fn listed() -> BTreeSet<(String, u64)> {
             numbers = refusals.split_whitespace().filter_map(word).collect();
         }
         if let Some((entry, _)) = line.strip_prefix("uint64_t doorsedge_").and_then(|rest| rest.split_once('(')) {
-            listed.extend(numbers.drain(..).map(|number| (entry.to_owned(), number)));
+            let results = |number| if number == 3 { vec![259, 515, 771] } else { vec![number] };
+            listed.extend(numbers.drain(..).flat_map(results).map(|result| (entry.to_owned(), result)));
         }
     }
     listed
