@@ -9,7 +9,10 @@ use Rattle.rules.specs.declared.Number.the-variants as number
 use Rattle.rules.specs.declared.Refusal.the-variants.{Short}
 use Rattle.rules.specs.Tables.{frameWidth, headerWidth, State}
 use Rattle.rules.specs.Refusals.{Said, Outcome}
-use Rattle.rules.specs.Calls.{compress, compressWith, step}
+use Rattle.rules.specs.Compress.{placeOf}
+use Rattle.rules.specs.Calls.{compress, compressWith, Ready, step}
+use Rattle.rules.specs.Renaming as by-compress
+use Rattle.rules.specs.Renaming.{SameRuns, framesBy, classesBy, Renaming}
 use Rattle.rules.specs.Answers.{saidNumber}
 use Rattle.rules.specs.History.{History, noted, sorted, begunAt, ordered, renamed, movedDown}
 use Rattle.rules.proofs.Cases.{rules, Case, _gives_, did, says, key, ok, over, refused, pool, at, e, s, m, zeros}
@@ -110,3 +113,17 @@ renamed-by-run = refl
 pub refused-renames-none : noted before (compressWith false) (step (holed 7) [] (compressWith false) .said) ≡ before
 unfolding rules
 refused-renames-none = refl
+
+-- ---- the orders of both compressions, and what the claim over both says of these states
+pub orders : framesBy (holed 7) (by-compress.canonical true) ∷ framesBy (holed 7) (by-compress.kept true) ∷ classesBy (holed 7) (by-compress.canonical true) ∷ classesBy (holed 7) (by-compress.kept true) ∷ []
+    ≡ (2 ∷ 5 ∷ 4 ∷ []) ∷ (2 ∷ 4 ∷ 5 ∷ []) ∷ (3 ∷ 1 ∷ []) ∷ (1 ∷ 3 ∷ []) ∷ []
+unfolding rules
+orders = refl
+
+pub claimed : Renaming → Ready (holed 7) → SameRuns (holed 7) (down 8) (placeOf (2 ∷ 4 ∷ 5 ∷ [])) (placeOf (1 ∷ 3 ∷ []))
+unfolding rules
+claimed claim R = claim (holed 7) R (replicate 12 9) (compressWith false) (by-compress.kept false) refl
+
+pub claimed-canonical : Renaming → Ready (holed 7) → SameRuns (holed 7) (byRuns 8) (placeOf (2 ∷ 5 ∷ 4 ∷ [])) (placeOf (3 ∷ 1 ∷ []))
+unfolding rules
+claimed-canonical claim R = claim (holed 7) R (replicate 30 9) (compress false) (by-compress.canonical false) refl
