@@ -9,7 +9,7 @@ use Rattle.rules.specs.declared.Number.the-variants as number
 use Rattle.rules.specs.declared.Refusal.the-variants.{Short}
 use Rattle.rules.specs.Tables.{frameWidth, headerWidth, State}
 use Rattle.rules.specs.Refusals.{Said, Outcome}
-use Rattle.rules.specs.Compress.{placeOf}
+use Rattle.rules.specs.Compress.{packed, placeOf}
 use Rattle.rules.specs.Calls.{compress, compressWith, Ready, step}
 use Rattle.rules.specs.Renaming as by-compress
 use Rattle.rules.specs.Renaming.{SameRuns, framesBy, classesBy, Renaming}
@@ -127,3 +127,7 @@ claimed claim R = claim (holed 7) R (replicate 12 9) (compressWith false) (by-co
 pub claimed-canonical : Renaming → Ready (holed 7) → SameRuns (holed 7) (byRuns 8) (placeOf (2 ∷ 5 ∷ 4 ∷ [])) (placeOf (3 ∷ 1 ∷ []))
 unfolding rules
 claimed-canonical claim R = claim (holed 7) R (replicate 30 9) (compress false) (by-compress.canonical false) refl
+
+-- an extent becomes the live number and a root 0; the capacity stays
+pub packs : packed (pool 6 5 3 2) ≡ pool 6 2 0 2
+packs = refl
