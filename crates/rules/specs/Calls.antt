@@ -15,7 +15,7 @@ use Rattle.rules.specs.Seals
 use Rattle.rules.specs.Exchange
 use Rattle.rules.specs.Compress
 
--- Rules 1 and 4 to 14, Ticket 1 and Tickets 5 and 3
+-- Rules 1 and 4 to 14, and Tickets 1, 3 and 5
 pub data Call : Type 0 where
   lenSurject getElement getShared lookup remove removeShared list drain seal : Key → Call
   inSameSurject union : (j k : Key) → Call
