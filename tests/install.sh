@@ -3,6 +3,7 @@
 # crate's tests, once where DOORSEDGE_PREFIX names the place and once where pkg-config finds it, in a copy without target/.
 set -eu
 cd "$(dirname "$0")/.."
+. tests/processor.sh
 place=$(mktemp -d)
 trap 'rm -rf "$place"' EXIT
 prefix=$place/prefix
@@ -25,8 +26,9 @@ fi
 cp host/c/recorder.c "$place/"
 # shellcheck disable=SC2086
 (cd "$place" && ${CC:-cc} recorder.c $flags -o recorder)
-"$place/recorder" | diff -u host/c/recorder.stdout -
+${DOORSEDGE_EMULATOR:-} "$place/recorder" | diff -u host/c/recorder.stdout -
 
+build_scripts=$place/cargo/${CARGO_BUILD_TARGET:+$CARGO_BUILD_TARGET/}release/build
 # the Rust crate, of a tree that has no archive of its own
 mkdir "$place/tree"
 cp -r Cargo.toml Cargo.lock host rust tests "$place/tree/"
@@ -36,8 +38,8 @@ crate_finds() { # WHERE, with the environment set that leads there
         echo "install: the Rust crate does not find the archive by $1" >&2
         exit 1
     }
-    grep -qs "rustc-link-search=native=$prefix/lib" "$place"/cargo/release/build/doorsedge-*/output || { echo "install: the Rust crate links another archive" >&2; exit 1; }
-    rm -rf "$place"/cargo/release/build/doorsedge-*
+    grep -qs "rustc-link-search=native=$prefix/lib" "$build_scripts"/doorsedge-*/output || { echo "install: the Rust crate links another archive" >&2; exit 1; }
+    rm -rf "$build_scripts"/doorsedge-*
 }
 unset DOORSEDGE_ARCHIVE
 DOORSEDGE_PREFIX=$prefix crate_finds DOORSEDGE_PREFIX

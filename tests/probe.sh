@@ -4,11 +4,12 @@
 #   tests/probe.sh [ARCHIVE]
 set -eu
 cd "$(dirname "$0")/.."
+. tests/processor.sh
 archive=${1:-${DOORSEDGE_ARCHIVE:-target/staticlib}/libhost.a}
 [ -f "$archive" ] || { echo "probe: $archive is missing: make it with 'rt staticlib host'" >&2; exit 1; }
 code=$(mktemp)
 trap 'rm -f "$code"' EXIT
-objdump -d --no-show-raw-insn "$archive" >"$code"
+"${OBJDUMP:-objdump}" -d --no-show-raw-insn "$archive" >"$code"
 
 status=0
 for entry in $(grep -o 'uint64_t doorsedge_[a-z0-9_]*' include/doorsedge.h | cut -d' ' -f2); do

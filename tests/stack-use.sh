@@ -8,20 +8,21 @@
 # and each of its places lies in the function.
 set -eu
 cd "$(dirname "$0")/.."
+. tests/processor.sh
 archive=${1:-${DOORSEDGE_ARCHIVE:-target/staticlib}/libhost.a}
 [ -f "$archive" ] || { echo "stack-use: $archive is missing: make it with 'rt staticlib host'" >&2; exit 1; }
 most=$(awk '$2 == "DOORSEDGE_STACK" { print $3 }' include/doorsedge.h)
 [ -n "$most" ] || { echo "stack-use: include/doorsedge.h has no DOORSEDGE_STACK" >&2; exit 1; }
 
-outside=$(nm -u "$archive" | awk '$1 == "U" { print $2 }' | sort -u)
+outside=$("${NM:-nm}" -u "$archive" | awk '$1 == "U" { print $2 }' | sort -u)
 [ "$outside" = memset ] || { echo "stack-use: symbols from outside are not memset alone:" $outside >&2; exit 1; }
 
-tables=$(objdump -r "$archive" | awk '
+tables=$("${OBJDUMP:-objdump}" -r "$archive" | awk '
     /^RELOCATION RECORDS FOR/ { of = $4; if (!sub(/^\[\.rodata\./, "", of)) of = ""; sub(/\]:$/, "", of); next }
     of != "" && $2 ~ /^R_/ { to = $3; sub(/^\.text\./, "", to); sub(/[-+]0x[0-9a-f]+$/, "", to); read[of] = 1; if (to != of) out[of] = 1 }
     END { for (of in read) if (!(of in out)) print of }')
 
-objdump -dr --no-show-raw-insn "$archive" | awk -v most="$most" -v tables="$tables" '
+"${OBJDUMP:-objdump}" -dr --no-show-raw-insn "$archive" | awk -v most="$most" -v tables="$tables" '
     BEGIN { n = split(tables, names, "\n"); for (i = 1; i <= n; i++) table[names[i]] = 1 }
     function number(text,   value, i) { # $0x1a8 as a decimal
         sub(/^[^$]*\$0x/, "", text); sub(/,.*/, "", text)

@@ -3,11 +3,12 @@
 # recorder.stdout and finalizer.stdout, and entries, which calls every entry. `run.sh mock` takes the plain Rust model instead of the proved archive.
 set -eu
 cd "$(dirname "$0")/../.."
+. tests/processor.sh
 out=target/cargo/c
 mkdir -p "$out"
 if [ "${1:-}" = mock ]; then
     cargo build -q --release -p mock
-    archive=target/cargo/release/libmock.a
+    archive=$made/libmock.a
 else
     archive=${DOORSEDGE_ARCHIVE:-target/staticlib}/libhost.a
     [ -f "$archive" ] || { echo "$archive is missing: make it with 'rt staticlib host', or run with 'mock'" >&2; exit 1; }
@@ -16,7 +17,7 @@ for program in recorder finalizer entries; do
     ${CC:-cc} -std=c99 -O2 -Wall -Wextra -Werror -pedantic -Iinclude -o "$out/$program" "host/c/$program.c" "$archive" -lpthread -ldl -lm
 done
 for program in recorder finalizer; do
-    "$out/$program" | diff -u "host/c/$program.stdout" -
+    ${DOORSEDGE_EMULATOR:-} "$out/$program" | diff -u "host/c/$program.stdout" -
     echo "host/c/$program: as expected"
 done
-"$out/entries"
+${DOORSEDGE_EMULATOR:-} "$out/entries"
