@@ -36,7 +36,8 @@ off-class st g x (suc zero) h n = refl
 off-class st g x (suc (suc zero)) h n = absurd (n refl)
 off-class st g x (suc (suc (suc zero))) h n = refl
 off-class st g x (suc (suc (suc (suc zero)))) h n = refl
-off-class st g x (suc (suc (suc (suc (suc f))))) h n = absurd (omega arith)
+off-class st g x (suc (suc (suc (suc (suc zero))))) h n = refl
+off-class st g x (suc (suc (suc (suc (suc (suc f)))))) h n = absurd (omega arith)
 
 -- a header is what the rule says
 all-header : (st : State) (c f : ℕ) → f < headerWidth → nextFreeOf (st .shared) c ≡ 0 → cell headerWidth (st .shared) f c ≡ getD (movedHeader st c) f 0
@@ -44,7 +45,8 @@ all-header st c zero h e = refl
 all-header st c (suc zero) h e = refl
 all-header st c (suc (suc zero)) h e = e
 all-header st c (suc (suc (suc zero))) h e = refl
-all-header st c (suc (suc (suc (suc f)))) h e = absurd (omega arith)
+all-header st c (suc (suc (suc (suc zero)))) h e = refl
+all-header st c (suc (suc (suc (suc (suc f))))) h e = absurd (omega arith)
 
 module _ (st : State) (R : Ready st) (sc₀ : List ℕ) (g : ℕ) (e₁ sc₁ : List ℕ) (G : Regrouped st sc₀ g e₁ sc₁) where
   abbrev v : View

@@ -8,7 +8,7 @@ use native.Mathlib.Numerals.{add-one}
 use native.Mathlib.Decide.{ℕ-discrete}
 use lib.ListN.{length, getD}
 use Rattle.rules.specs.Notation.{steps}
-use Rattle.rules.specs.Tables.{mostSlots, frameWidth, frameAt, cell, put, row, generationOf, payloadOf, classOf, nextOf}
+use Rattle.rules.specs.Tables.{mostSlots, frameWidth, frameAt, cell, put, row, generationOf, payloadOf, classOf, nextOf, bytesOf}
 use Rattle.rules.specs.Runs.{frame}
 use Rattle.rules.proofs.laws.Columns.{upd, upd-same, upd-at, upd-other, length-put, length-row, put-at, put-off, row-at}
 use Rattle.rules.proofs.laws.Steps.{steps-suc}
@@ -39,7 +39,7 @@ module _ (e₀ sc₀ : List ℕ) (x a n g : ℕ) (e sc : List ℕ) (i at : ℕ) 
   copying-row = record { some = omega arith; inside = rw (R .copied .wide) (omega (arith, R .copiable .room)) }
 
   -- one more frame
-  module _ (vs : List ℕ) (five : length vs ≡ frameWidth) (same : vs ≡ copiedFrame e₀ x a n g i) where
+  module _ (vs : List ℕ) (six : length vs ≡ frameWidth) (same : vs ≡ copiedFrame e₀ x a n g i) where
     new : List ℕ
     new = row frameWidth sc (a + i + 1) vs
 
@@ -48,7 +48,7 @@ module _ (e₀ sc₀ : List ℕ) (x a n g : ℕ) (e sc : List ℕ) (i at : ℕ) 
 
     column : (f : ℕ) → f < frameWidth → cell frameWidth new f ≡ upd (cell frameWidth sc f) (a + i + 1) (getD vs f 0)
     unfolding new
-    column f h = row-at frameWidth sc vs five (a + i + 1) f h (copying-row .some) (copying-row .inside)
+    column f h = row-at frameWidth sc vs six (a + i + 1) f h (copying-row .some) (copying-row .inside)
 
     gens : generationOf old ≡ upd (generationOf e) at 0
     gens = put-at frameWidth e at (frameAt .generation) 0 (omega arith) (copying-at .some) (copying-at .inside)
@@ -81,18 +81,18 @@ module _ (e₀ sc₀ : List ℕ) (x a n g : ℕ) (e sc : List ℕ) (i at : ℕ) 
       wide = length-row frameWidth sc (a + i + 1) vs ∙ R .copied .wide;
     }
 
-  pub copying-next : (e′ sc′ : List ℕ) (y c p q nx : ℕ) → y ≡ payloadOf e at → c ≡ classOf e at → nx ≡ nextOf e at → p ≡ beforeIn a n i → q ≡ afterIn a n i
-      → sc′ ≡ row frameWidth sc (a + i + 1) (frame g y c p q) → e′ ≡ put frameWidth e at (frameAt .generation) 0 → Copying e₀ sc₀ x a n g e′ sc′ (i + 1) nx
+  pub copying-next : (e′ sc′ : List ℕ) (y c p q nx z : ℕ) → y ≡ payloadOf e at → c ≡ classOf e at → nx ≡ nextOf e at → z ≡ bytesOf e at → p ≡ beforeIn a n i → q ≡ afterIn a n i
+      → sc′ ≡ row frameWidth sc (a + i + 1) (frame g y c p q z) → e′ ≡ put frameWidth e at (frameAt .generation) 0 → Copying e₀ sc₀ x a n g e′ sc′ (i + 1) nx
   unfolding new
-  copying-next e′ sc′ y c p q nx ey ec en ep eq w z = record {
-    copied = rw (w, z, add-one) (next-copied (frame g y c p q) refl same);
+  copying-next e′ sc′ y c p q nx z ey ec en ez ep eq w v = record {
+    copied = rw (w, v, add-one) (next-copied (frame g y c p q z) refl same);
     copiable = R .copiable;
     here = rw (en, add-one, steps-suc, R .copied .others (frameAt .next) (omega arith) (omega arith), R .here);
     high = omega arith;
   }
     where
-      same : frame g y c p q ≡ copiedFrame e₀ x a n g i
-      same = rw (ey, ec, ep, eq, R .copied .others (frameAt .payload) (omega arith) (omega arith), R .copied .others (frameAt .class) (omega arith) (omega arith), R .here)
+      same : frame g y c p q z ≡ copiedFrame e₀ x a n g i
+      same = rw (ey, ec, ez, ep, eq, R .copied .others (frameAt .payload) (omega arith) (omega arith), R .copied .others (frameAt .class) (omega arith) (omega arith), R .copied .others (frameAt .size) (omega arith) (omega arith), R .here)
 
 pub copying-done : (e₀ sc₀ : List ℕ) (x a n g : ℕ) (e sc : List ℕ) (i at : ℕ) → Copying e₀ sc₀ x a n g e sc i at → n ≤ i → Copied e₀ sc₀ x a n n g e sc
 copying-done e₀ sc₀ x a n g e sc i at R h = let z : i ≡ n = omega (arith, R .high) in rw z at (R .copied)

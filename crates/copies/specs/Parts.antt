@@ -5,7 +5,7 @@ use mathlib.Core.List.{List}
 use Prim.Native.Nat.{ℕ, suc, _+_, _*_, _≤_, _<_}
 use lib.ListN.{length, getD}
 use Rattle.rules.specs.Notation.{steps}
-use Rattle.rules.specs.Tables.{mostSlots, frameWidth, frameAt, cell, generationOf, payloadOf, classOf, nextOf}
+use Rattle.rules.specs.Tables.{mostSlots, frameWidth, frameAt, cell, generationOf, payloadOf, classOf, nextOf, bytesOf}
 use Rattle.rules.specs.Runs.{frame}
 use Rattle.rules.proofs.laws.Blocks.{beforeIn, afterIn}
 use Rattle.slots.specs.Asked.{Within}
@@ -22,7 +22,7 @@ pub record Copiable (e sc : List ℕ) (x a n : ℕ) : Type 0 where
 
 -- the frame `i` steps along next from `x`, in a block of `size` past the `a`-th row, with its own class
 abbrev pub copiedFrame : List ℕ → (x a size g i : ℕ) → List ℕ
-copiedFrame e x a size g i = let s = steps (nextOf e) i x in frame g (payloadOf e s) (classOf e s) (beforeIn a size i) (afterIn a size i)
+copiedFrame e x a size g i = let s = steps (nextOf e) i x in frame g (payloadOf e s) (classOf e s) (beforeIn a size i) (afterIn a size i) (bytesOf e s)
 
 -- `n` frames of the ring stand in the scratch, and their generations are zeroed where they stood
 pub record Copied (e sc : List ℕ) (x a n size g : ℕ) (e′ sc′ : List ℕ) : Type 0 where

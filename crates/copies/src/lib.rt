@@ -4,6 +4,7 @@ use rules::FRAME;
 use rules::GENERATION;
 use rules::NEXT;
 use rules::PAYLOAD;
+use rules::SIZE;
 use slots::get;
 use slots::put;
 use slots::write_frame;
@@ -46,6 +47,7 @@ pub fn copy_ring(elems: &mut [u64], scratch: &mut [u64], x: u64, a: u64, n: u64,
         let payload = get(elems, FRAME, PAYLOAD, at);
         let class = get(elems, FRAME, CLASS, at);
         let next = get(elems, FRAME, NEXT, at);
+        let size = get(elems, FRAME, SIZE, at);
         let previous = before(a, n, i);
         let following = after(a, n, i);
         write_frame(
@@ -56,6 +58,7 @@ pub fn copy_ring(elems: &mut [u64], scratch: &mut [u64], x: u64, a: u64, n: u64,
             class,
             previous,
             following,
+            size,
         );
         put(elems, FRAME, at, GENERATION, 0);
         at = next;

@@ -2,6 +2,8 @@
 pub use door_reads::exchange_disjoint_shared;
 pub use door_reads::get;
 pub use door_reads::get_shared;
+pub use door_reads::get_size;
+pub use door_reads::get_total;
 pub use door_reads::in_same_surject;
 pub use door_reads::len_surject;
 pub use door_reads::lookup;

@@ -10,7 +10,7 @@ ghost use mathlib.Core.Bool.{false};
 ghost use mathlib.Core.List.{[]};
 ghost use Rattle.rules.specs.Tables.{stateOf};
 ghost use Rattle.rules.specs.Answers.{leaves, saidDone, saidNumber, saidSame, saidExchanged};
-ghost use Rattle.rules.specs.Calls.{AtDoor, lenSurject, inSameSurject, getElement, getShared, lookup, setElement, setShared, exchange};
+ghost use Rattle.rules.specs.Calls.{AtDoor, lenSurject, inSameSurject, getElement, getShared, getSize, getTotal, lookup, setElement, setShared, exchange};
 
 // Rules 1, reads and sets: the size of a class.
 pub fn len_surject(head: Head, elems: &[u64], shared: &[u64], key: Key) -> Number
@@ -49,6 +49,26 @@ pub fn get_shared(head: Head, elems: &[u64], shared: &[u64], key: Key) -> Number
     match gate(head, elems, shared) {
         Done::Refused(n) => Number::Refused(n),
         Done::Done => reads::get_shared(head, elems, shared, key),
+    }
+}
+
+// Ticket 6: the frame's size.
+pub fn get_size(head: Head, elems: &[u64], shared: &[u64], key: Key) -> Number
+    ensures { λ r. ⌜ AtDoor (stateOf head (now (elems .entry)) (now (shared .entry))) [] (getSize key) (leaves head (now (elems .entry)) (now (shared .entry)) [] (saidNumber r false)) ⌝ }
+{
+    match gate(head, elems, shared) {
+        Done::Refused(n) => Number::Refused(n),
+        Done::Done => reads::get_size(head, elems, shared, key),
+    }
+}
+
+// Ticket 6: the total of its run.
+pub fn get_total(head: Head, elems: &[u64], shared: &[u64], key: Key) -> Number
+    ensures { λ r. ⌜ AtDoor (stateOf head (now (elems .entry)) (now (shared .entry))) [] (getTotal key) (leaves head (now (elems .entry)) (now (shared .entry)) [] (saidNumber r false)) ⌝ }
+{
+    match gate(head, elems, shared) {
+        Done::Refused(n) => Number::Refused(n),
+        Done::Done => reads::get_total(head, elems, shared, key),
     }
 }
 

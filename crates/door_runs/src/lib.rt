@@ -22,15 +22,16 @@ pub fn insert_surject(
     shared: &mut [u64],
     payload: u64,
     value: u64,
+    size: u32,
 ) -> HeadInserted
-    ensures { λ r. ⌜ AtDoor (stateOf head (now (elems .entry)) (now (shared .entry))) [] (newRun payload value) (afterInserted r (now (elems .exit)) (now (shared .exit)) []) ⌝ }
+    ensures { λ r. ⌜ AtDoor (stateOf head (now (elems .entry)) (now (shared .entry))) [] (newRun payload value size) (afterInserted r (now (elems .exit)) (now (shared .exit)) []) ⌝ }
 {
     match gate(head, elems, shared) {
         Done::Refused(n) => HeadInserted {
             head,
             answer: Inserted::Refused(n),
         },
-        Done::Done => inserts::insert_surject(head, elems, shared, payload, value),
+        Done::Done => inserts::insert_surject(head, elems, shared, payload, value, size),
     }
 }
 
@@ -41,15 +42,16 @@ pub fn insert(
     shared: &mut [u64],
     at: Key,
     payload: u64,
+    size: u32,
 ) -> HeadInserted
-    ensures { λ r. ⌜ AtDoor (stateOf head (now (elems .entry)) (now (shared .entry))) [] (insert at payload) (afterInserted r (now (elems .exit)) (now (shared .exit)) []) ⌝ }
+    ensures { λ r. ⌜ AtDoor (stateOf head (now (elems .entry)) (now (shared .entry))) [] (insert at payload size) (afterInserted r (now (elems .exit)) (now (shared .exit)) []) ⌝ }
 {
     match gate(head, elems, shared) {
         Done::Refused(n) => HeadInserted {
             head,
             answer: Inserted::Refused(n),
         },
-        Done::Done => inserts::insert(head, elems, shared, at, payload),
+        Done::Done => inserts::insert(head, elems, shared, at, payload, size),
     }
 }
 

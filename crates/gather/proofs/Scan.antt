@@ -8,7 +8,7 @@ use native.Mathlib.Omega.{arith}
 use native.Mathlib.Decide.{ℕ-discrete, decLt}
 use lib.ListN.{length, getD, length-append}
 use Rattle.rules.specs.Notation.{steps}
-use Rattle.rules.specs.Tables.{mostSlots, frameWidth, headerWidth, frameAt, cell, generationOf, payloadOf, classOf, previousOf, nextOf, countOf, State}
+use Rattle.rules.specs.Tables.{mostSlots, frameWidth, headerWidth, frameAt, cell, generationOf, payloadOf, classOf, previousOf, nextOf, bytesOf, countOf, State}
 use Rattle.rules.specs.Runs.{frame}
 use Rattle.rules.specs.Drains.{ring}
 use Rattle.rules.specs.Calls.{Ready}
@@ -73,6 +73,9 @@ module _ (st : State) (sc₀ : List ℕ) (g : ℕ) (e sc : List ℕ) (k t : ℕ)
   payloads : payloadOf e ≡ payloadOf (st .elems)
   payloads = R .others (frameAt .payload) (omega arith) (omega arith)
 
+  sizes : bytesOf e ≡ bytesOf (st .elems)
+  sizes = R .others (frameAt .size) (omega arith) (omega arith)
+
   -- a slot that is still live is the lowest of its ring
   live-leads : generationOf e (suc k) ≢ 0 → (isLowest st (suc k) ≡ true) × (view st .gen (suc k) ≢ 0)
   live-leads a = go (isLowest st (suc k)) (looked st W (suc k))
@@ -129,7 +132,7 @@ module _ (st : State) (sc₀ : List ℕ) (g : ℕ) (e sc : List ℕ) (k t : ℕ)
     frame-is i b =
         let p = live-leads a in
         let w : getD (canonicalFrames st) (t + i) 0 ≡ steps (v .next) i (suc k) = rw (R .count) (block-at st W k l (p .0) (p .1) i b .0) in
-        rw (w, nexts, classes, payloads, block-prev st W k l (p .0) (p .1) i b, block-next st W k l (p .0) (p .1) i b, R .count)
+        rw (w, nexts, classes, payloads, sizes, block-prev st W k l (p .0) (p .1) i b, block-next st W k l (p .0) (p .1) i b, R .count)
 
   pub gathering-visit : Visitable e (st .shared) sc (suc k) t
   gathering-visit = record {

@@ -5,7 +5,7 @@ use mathlib.Core.List.{List, _++_}
 use Prim.Native.Nat.{ℕ, suc, _+_, _*_, _≤_, _<_}
 use lib.ListN.{length, getD, replicate, drop}
 use Rattle.rules.specs.declared.Head.{Head}
-use Rattle.rules.specs.Tables.{frameWidth, headerWidth, cell, generationOf, payloadOf, classOf, previousOf, nextOf, countOf, State, stateOf}
+use Rattle.rules.specs.Tables.{frameWidth, headerWidth, cell, generationOf, payloadOf, classOf, previousOf, nextOf, bytesOf, countOf, State, stateOf}
 use Rattle.rules.specs.Runs.{frame}
 use Rattle.rules.specs.Calls.{Ready}
 use Rattle.rules.specs.Compress.{canonicalFrames, placeOf}
@@ -31,7 +31,7 @@ pub record Enough (h : Head) (e s sc : List ℕ) : Type 0 where
 abbrev pub carriedFrame : State → (g x : ℕ) → List ℕ
 carriedFrame st g x =
     let e = st .elems in
-    frame g (payloadOf e x) (classOf e x) (placeOf (canonicalFrames st) (previousOf e x)) (placeOf (canonicalFrames st) (nextOf e x))
+    frame g (payloadOf e x) (classOf e x) (placeOf (canonicalFrames st) (previousOf e x)) (placeOf (canonicalFrames st) (nextOf e x)) (bytesOf e x)
 
 -- the frame at place `u` of the canonical order stands in slot `suc u`
 abbrev pub Moved : State → (g : ℕ) → List ℕ → (u : ℕ) → Type 0

@@ -17,11 +17,12 @@ pub extern "C" fn doorsedge_insert_surject(
     shared: &mut [u64],
     payload: u64,
     value: u64,
+    size: u32,
     out: &mut [u64; 2],
 ) -> u64
-    ensures { λ r. ⌜ AtHost (newRun payload value) values (now (head .entry)) (now (elems .entry)) (now (shared .entry)) [] (now (out .entry)) (left r (now (head .exit)) (now (elems .exit)) (now (shared .exit)) [] (now (out .exit))) ⌝ }
+    ensures { λ r. ⌜ AtHost (newRun payload value size) values (now (head .entry)) (now (elems .entry)) (now (shared .entry)) [] (now (out .entry)) (left r (now (head .exit)) (now (elems .exit)) (now (shared .exit)) [] (now (out .exit))) ⌝ }
 {
-    let step = door::insert_surject(unpack(*head), elems, shared, payload, value);
+    let step = door::insert_surject(unpack(*head), elems, shared, payload, value, size);
     let next = step.head;
     let answer = step.answer;
     let number = answers::key(answer, out);
@@ -38,9 +39,10 @@ pub extern "C" fn doorsedge_insert(
     slot: u64,
     generation: u64,
     payload: u64,
+    size: u32,
     out: &mut [u64; 2],
 ) -> u64
-    ensures { λ r. ⌜ AtHost (insert (keyOf slot generation) payload) values (now (head .entry)) (now (elems .entry)) (now (shared .entry)) [] (now (out .entry)) (left r (now (head .exit)) (now (elems .exit)) (now (shared .exit)) [] (now (out .exit))) ⌝ }
+    ensures { λ r. ⌜ AtHost (insert (keyOf slot generation) payload size) values (now (head .entry)) (now (elems .entry)) (now (shared .entry)) [] (now (out .entry)) (left r (now (head .exit)) (now (elems .exit)) (now (shared .exit)) [] (now (out .exit))) ⌝ }
 {
     let step = door::insert(
         unpack(*head),
@@ -51,6 +53,7 @@ pub extern "C" fn doorsedge_insert(
             generation: generation,
         },
         payload,
+        size,
     );
     let next = step.head;
     let answer = step.answer;

@@ -21,15 +21,16 @@ fn insert_said(
     slot: u64,
     generation: u64,
     payload: u64,
+    size: u32,
     out: &mut [u64; 2],
 ) -> HeadSaid
-    ensures { λ r. ⌜ AtHead (insert (keyOf slot generation) payload) values head (now (elems .entry)) (now (shared .entry)) (now (out .entry)) (leftAt (r .number) (r .head) (now (elems .exit)) (now (shared .exit)) (now (out .exit))) ⌝ }
+    ensures { λ r. ⌜ AtHead (insert (keyOf slot generation) payload size) values head (now (elems .entry)) (now (shared .entry)) (now (out .entry)) (leftAt (r .number) (r .head) (now (elems .exit)) (now (shared .exit)) (now (out .exit))) ⌝ }
 {
     let at = Key {
         slot: slot,
         generation: generation,
     };
-    let r = door::insert(head, elems, shared, at, payload);
+    let r = door::insert(head, elems, shared, at, payload, size);
     let next = r.head;
     let answer = r.answer;
     HeadSaid {
@@ -47,11 +48,12 @@ pub extern "C" fn doorsedge_insert_in_place(
     slot: u64,
     generation: u64,
     payload: u64,
+    size: u32,
     out: &mut [u64; 2],
 ) -> u64
-    ensures { λ r. ⌜ AtHead (insert (keyOf slot generation) payload) values (now (head .entry)) (now (elems .entry)) (now (shared .entry)) (now (out .entry)) (leftAt r (now (head .exit)) (now (elems .exit)) (now (shared .exit)) (now (out .exit))) ⌝ }
+    ensures { λ r. ⌜ AtHead (insert (keyOf slot generation) payload size) values (now (head .entry)) (now (elems .entry)) (now (shared .entry)) (now (out .entry)) (leftAt r (now (head .exit)) (now (elems .exit)) (now (shared .exit)) (now (out .exit))) ⌝ }
 {
-    let r = insert_said(*head, elems, shared, slot, generation, payload, out);
+    let r = insert_said(*head, elems, shared, slot, generation, payload, size, out);
     if r.number != 0 {
         return r.number;
     }

@@ -4,7 +4,7 @@ use numbers::answers;
 use rules::Key;
 ghost use mathlib.Core.Path.{_≡_};
 ghost use mathlib.Core.List.{[]};
-ghost use Rattle.rules.specs.Calls.{lenSurject, inSameSurject, getElement, getShared, lookup, list};
+ghost use Rattle.rules.specs.Calls.{lenSurject, inSameSurject, getElement, getShared, getSize, getTotal, lookup, list};
 ghost use Rattle.numbers.specs.Numbers.{values};
 ghost use Rattle.promises.specs.Host.{keyOf, AtHost, left};
 
@@ -99,6 +99,54 @@ pub extern "C" fn doorsedge_get_shared(
     ensures { λ r. ⌜ AtHost (getShared (keyOf slot generation)) values (now (head .entry)) (now (elems .entry)) (now (shared .entry)) [] (now (out .entry)) (left r (now (head .entry)) (now (elems .entry)) (now (shared .entry)) [] (now (out .exit))) ⌝ }
 {
     let answer = door::get_shared(
+        unpack(*head),
+        elems,
+        shared,
+        Key {
+            slot: slot,
+            generation: generation,
+        },
+    );
+    answers::number(answer, out)
+}
+
+// Ticket 6: the size of the key's frame.
+#[no_mangle]
+pub extern "C" fn doorsedge_get_size(
+    head: &[u64; 9],
+    elems: &[u64],
+    shared: &[u64],
+    slot: u64,
+    generation: u64,
+    out: &mut [u64; 1],
+) -> u64
+    ensures { λ r. ⌜ AtHost (getSize (keyOf slot generation)) values (now (head .entry)) (now (elems .entry)) (now (shared .entry)) [] (now (out .entry)) (left r (now (head .entry)) (now (elems .entry)) (now (shared .entry)) [] (now (out .exit))) ⌝ }
+{
+    let answer = door::get_size(
+        unpack(*head),
+        elems,
+        shared,
+        Key {
+            slot: slot,
+            generation: generation,
+        },
+    );
+    answers::number(answer, out)
+}
+
+// Ticket 6: the total of the key's run.
+#[no_mangle]
+pub extern "C" fn doorsedge_get_total(
+    head: &[u64; 9],
+    elems: &[u64],
+    shared: &[u64],
+    slot: u64,
+    generation: u64,
+    out: &mut [u64; 1],
+) -> u64
+    ensures { λ r. ⌜ AtHost (getTotal (keyOf slot generation)) values (now (head .entry)) (now (elems .entry)) (now (shared .entry)) [] (now (out .entry)) (left r (now (head .entry)) (now (elems .entry)) (now (shared .entry)) [] (now (out .exit))) ⌝ }
+{
+    let answer = door::get_total(
         unpack(*head),
         elems,
         shared,

@@ -15,10 +15,11 @@ pub fn insert_in_place(
     shared: &mut [u64],
     at: Key,
     payload: u64,
+    size: u32,
 ) -> Inserted
-    ensures { λ r. ⌜ AtDoor (stateOf (now (head .entry)) (now (elems .entry)) (now (shared .entry))) [] (insert at payload) (leaves (now (head .exit)) (now (elems .exit)) (now (shared .exit)) [] (saidInserted r)) ⌝ }
+    ensures { λ r. ⌜ AtDoor (stateOf (now (head .entry)) (now (elems .entry)) (now (shared .entry))) [] (insert at payload size) (leaves (now (head .exit)) (now (elems .exit)) (now (shared .exit)) [] (saidInserted r)) ⌝ }
 {
-    let r = door_runs::insert(*head, elems, shared, at, payload);
+    let r = door_runs::insert(*head, elems, shared, at, payload, size);
     *head = r.head;
     r.answer
 }

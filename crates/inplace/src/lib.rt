@@ -24,11 +24,12 @@ pub fn insert_in_place(
     shared: &mut [u64],
     at: Key,
     payload: u64,
+    size: u32,
 ) -> Inserted
     requires { ⌜ Ready (stateOf (now head) (now elems) (now shared)) ⌝ }
-    ensures { λ r. ⌜ leaves (now (head .exit)) (now (elems .exit)) (now (shared .exit)) [] (saidInserted r) ≡ step (stateOf (now (head .entry)) (now (elems .entry)) (now (shared .entry))) [] (insert at payload) ⌝ }
+    ensures { λ r. ⌜ leaves (now (head .exit)) (now (elems .exit)) (now (shared .exit)) [] (saidInserted r) ≡ step (stateOf (now (head .entry)) (now (elems .entry)) (now (shared .entry))) [] (insert at payload size) ⌝ }
 {
-    let r = inserts::insert(*head, elems, shared, at, payload);
+    let r = inserts::insert(*head, elems, shared, at, payload, size);
     *head = r.head;
     r.answer
 }

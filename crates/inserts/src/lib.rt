@@ -8,9 +8,11 @@ use rules::HeadInserted;
 use rules::Inserted;
 use rules::Key;
 use rules::Refusal;
+use rules::TOTAL;
 ghost use mathlib.Core.Path.{_≡_};
 ghost use mathlib.Core.List.{[]};
-ghost use Rattle.rules.specs.Tables.{stateOf};
+ghost use Prim.Native.Nat.{_≤_};
+ghost use Rattle.rules.specs.Tables.{mostBytes, stateOf};
 ghost use Rattle.rules.specs.Runs.{begun, inserted};
 ghost use Rattle.rules.specs.Calls.{Ready, step, newRun, insert};
 ghost use Rattle.rules.specs.Answers.{afterInserted};
@@ -18,9 +20,16 @@ ghost use Rattle.slots.specs.Asked.{OnLive};
 ghost use Rattle.inserts.specs.Asked.{HasRoom, RoomFor};
 
 // A frame and a header are taken: a ring of one, count 1.
-fn begin(head: Head, elems: &mut [u64], shared: &mut [u64], payload: u64, value: u64) -> Head
+fn begin(
+    head: Head,
+    elems: &mut [u64],
+    shared: &mut [u64],
+    payload: u64,
+    value: u64,
+    size: u64,
+) -> Head
     requires { ⌜ RoomFor (stateOf head (now elems) (now shared)) ⌝ }
-    ensures { λ r. ⌜ stateOf r (now (elems .exit)) (now (shared .exit)) ≡ begun (stateOf head (now (elems .entry)) (now (shared .entry))) payload value ⌝ }
+    ensures { λ r. ⌜ stateOf r (now (elems .exit)) (now (shared .exit)) ≡ begun (stateOf head (now (elems .entry)) (now (shared .entry))) payload value size ⌝ }
 {
     let frames = head.elems;
     let headers = head.shared;
@@ -28,8 +37,8 @@ fn begin(head: Head, elems: &mut [u64], shared: &mut [u64], payload: u64, value:
     let class = headers.slot();
     let framed = slots::take_frame(head, elems);
     let next = slots::take_header(framed, shared);
-    slots::write_frame(elems, x, head.generation, payload, class, x, x);
-    slots::write_header(shared, class, 1, value, 0);
+    slots::write_frame(elems, x, head.generation, payload, class, x, x, size);
+    slots::write_header(shared, class, 1, value, 0, size);
     next
 }
 
@@ -40,9 +49,10 @@ pub fn insert_surject(
     shared: &mut [u64],
     payload: u64,
     value: u64,
+    size: u32,
 ) -> HeadInserted
     requires { ⌜ Ready (stateOf head (now elems) (now shared)) ⌝ }
-    ensures { λ r. ⌜ afterInserted r (now (elems .exit)) (now (shared .exit)) [] ≡ step (stateOf head (now (elems .entry)) (now (shared .entry))) [] (newRun payload value) ⌝ }
+    ensures { λ r. ⌜ afterInserted r (now (elems .exit)) (now (shared .exit)) [] ≡ step (stateOf head (now (elems .entry)) (now (shared .entry))) [] (newRun payload value size) ⌝ }
 {
     let frames = head.elems;
     let headers = head.shared;
@@ -59,7 +69,7 @@ pub fn insert_surject(
         };
     }
     let slot = frames.slot();
-    let next = begin(head, elems, shared, payload, value);
+    let next = begin(head, elems, shared, payload, value, size as u64);
     HeadInserted {
         head: next,
         answer: Inserted::At(Key {
@@ -70,16 +80,24 @@ pub fn insert_surject(
 }
 
 // A frame is taken, and stands immediately after the one in `x`.
-fn insert_at(head: Head, elems: &mut [u64], shared: &mut [u64], x: u64, payload: u64) -> Head
-    requires { ⌜ OnLive (stateOf head (now elems) (now shared)) x × HasRoom (head .elems) ⌝ }
-    ensures { λ r. ⌜ stateOf r (now (elems .exit)) (now (shared .exit)) ≡ inserted (stateOf head (now (elems .entry)) (now (shared .entry))) x payload ⌝ }
+fn insert_at(
+    head: Head,
+    elems: &mut [u64],
+    shared: &mut [u64],
+    x: u64,
+    payload: u64,
+    size: u64,
+) -> Head
+    requires { ⌜ OnLive (stateOf head (now elems) (now shared)) x × HasRoom (head .elems) × (size ≤ mostBytes) ⌝ }
+    ensures { λ r. ⌜ stateOf r (now (elems .exit)) (now (shared .exit)) ≡ inserted (stateOf head (now (elems .entry)) (now (shared .entry))) x payload size ⌝ }
 {
     let frames = head.elems;
     let y = frames.slot();
     let next = slots::take_frame(head, elems);
-    let class = slots::splice(elems, x, y, head.generation, payload);
+    let class = slots::splice(elems, x, y, head.generation, payload, size);
     let count = slots::get(shared, HEADER, COUNT, class);
-    slots::put(shared, HEADER, class, COUNT, count + 1);
+    let total = slots::get(shared, HEADER, TOTAL, class);
+    slots::recount(shared, class, count + 1, total + size);
     next
 }
 
@@ -90,9 +108,10 @@ pub fn insert(
     shared: &mut [u64],
     at: Key,
     payload: u64,
+    size: u32,
 ) -> HeadInserted
     requires { ⌜ Ready (stateOf head (now elems) (now shared)) ⌝ }
-    ensures { λ r. ⌜ afterInserted r (now (elems .exit)) (now (shared .exit)) [] ≡ step (stateOf head (now (elems .entry)) (now (shared .entry))) [] (insert at payload) ⌝ }
+    ensures { λ r. ⌜ afterInserted r (now (elems .exit)) (now (shared .exit)) [] ≡ step (stateOf head (now (elems .entry)) (now (shared .entry))) [] (insert at payload size) ⌝ }
 {
     let x = match slots::find(head, elems, at) {
         Found::Live(x) => x,
@@ -117,7 +136,7 @@ pub fn insert(
         };
     }
     let slot = frames.slot();
-    let next = insert_at(head, elems, shared, x, payload);
+    let next = insert_at(head, elems, shared, x, payload, size as u64);
     HeadInserted {
         head: next,
         answer: Inserted::At(Key {

@@ -34,12 +34,20 @@ pub fn obey_line(
     ensures { λ r. ⌜ Obeys (replyOf (stateOf head (now (elems .entry)) (now (shared .entry))) line) (stateOf (r .head) (now (elems .exit)) (now (shared .exit))) (now (out .entry)) at (now (out .exit)) (r .next) ⌝ }
 {
     match line {
-        Line::NewRun { payload, value } => {
-            let r = inserts::insert_surject(head, elems, shared, payload, value);
+        Line::NewRun {
+            payload,
+            value,
+            size,
+        } => {
+            let r = inserts::insert_surject(head, elems, shared, payload, value, size);
             tell_inserted(out, at, r)
         }
-        Line::Insert { target, payload } => {
-            let r = inserts::insert(head, elems, shared, target, payload);
+        Line::Insert {
+            target,
+            payload,
+            size,
+        } => {
+            let r = inserts::insert(head, elems, shared, target, payload, size);
             tell_inserted(out, at, r)
         }
         Line::Union { first, second } => {

@@ -17,15 +17,15 @@ pub fn forget(given: &mut [u64; 512]) {
 }
 
 // The frame in a slot is known by its payload, which is its name in the sample.
-fn relearn_slot(given: &mut [u64; 512], elems: &[u64; 80], slot: usize) -> bool {
+fn relearn_slot(given: &mut [u64; 512], elems: &[u64; 96], slot: usize) -> bool {
     if slot == 0 {
         return true;
     }
     if 16 < slot {
         return true;
     }
-    let generation = elems[slot * 5 - 5];
-    let frame = elems[slot * 5 - 4];
+    let generation = elems[slot * 6 - 6];
+    let frame = elems[slot * 6 - 5];
     if generation == 0 {
         return true;
     }
@@ -39,7 +39,7 @@ fn relearn_slot(given: &mut [u64; 512], elems: &[u64; 80], slot: usize) -> bool 
 }
 
 // After compression every frame has a new key.
-pub fn relearn(given: &mut [u64; 512], elems: &[u64; 80]) {
+pub fn relearn(given: &mut [u64; 512], elems: &[u64; 96]) {
     forget(given);
     let mut slot: usize = 16;
     while slot > 0 && relearn_slot(given, elems, slot) {

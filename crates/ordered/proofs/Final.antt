@@ -147,7 +147,8 @@ module _ (st : State) (R : Ready st) (g : ℕ) where
           N .previous s (live-in (W .elems) s h .1) (still-live s h) ∙ ap (λ (col : ℕ → ℕ). generationOf e₁ (col s)) (beside 3 (omega arith) (omega arith)) ∙ frame-rank (v .prev s) (W .links .prev-live s h)
       moved s (suc (suc (suc (suc zero)))) h l n =
           N .next s (live-in (W .elems) s h .1) (still-live s h) ∙ ap (λ (col : ℕ → ℕ). generationOf e₁ (col s)) (beside 4 (omega arith) (omega arith)) ∙ frame-rank (v .next s) (W .links .next-live s h)
-      moved s (suc (suc (suc (suc (suc f))))) h l n = absurd (omega arith)
+      moved s (suc (suc (suc (suc (suc zero))))) h l n = ap (λ (col : ℕ → ℕ). col s) (N .others 5 (omega arith) (omega arith) (omega arith) (omega arith) ∙ beside 5 (omega arith) (omega arith))
+      moved s (suc (suc (suc (suc (suc (suc f)))))) h l n = absurd (omega arith)
 
       module _ (e₃ s₃ : List ℕ) (DE : Settled frameWidth e₂ (frameAt .generation) (frameAt .generation) g (st .head .elems .extent) e₃)
           (DS : Settled headerWidth s₁ (headerAt .count) (headerAt .nextFree) 0 (st .head .shared .extent) s₃) where
@@ -194,7 +195,8 @@ module _ (st : State) (R : Ready st) (g : ℕ) where
         header-moved c (suc zero) h n = ap (λ (col : ℕ → ℕ). col c) (RS .others 1 h n)
         header-moved c (suc (suc zero)) h n = absurd (n refl)
         header-moved c (suc (suc (suc zero))) h n = ap (λ (col : ℕ → ℕ). col c) (RS .others 3 h n)
-        header-moved c (suc (suc (suc (suc f)))) h n = absurd (omega arith)
+        header-moved c (suc (suc (suc (suc zero)))) h n = ap (λ (col : ℕ → ℕ). col c) (RS .others 4 h n)
+        header-moved c (suc (suc (suc (suc (suc f))))) h n = absurd (omega arith)
 
         header-in : (f : ℕ) → f < headerWidth → (u : ℕ) → u < length cs → cell headerWidth s₃ f (suc u) ≡ getD (movedHeader st (getD cs u 0)) f 0
         header-in f h u l =

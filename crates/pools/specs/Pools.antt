@@ -6,7 +6,7 @@ use mathlib.Core.List.{List}
 use Prim.Native.Nat.{ℕ, _+_, _-_, _*_, _≤_, _<_}
 use lib.ListN.{length, getD}
 use Rattle.rules.specs.declared.Pool.{Pool}
-use Rattle.rules.specs.Tables.{mostSlots, cell, countOf, valueOf, nextFreeOf, markOf}
+use Rattle.rules.specs.Tables.{mostSlots, cell, countOf, valueOf, nextFreeOf, markOf, totalOf}
 use Rattle.rules.proofs.laws.Chains.{Linked}
 
 -- true with a proof of the one, false with a refutation of the other
@@ -30,9 +30,9 @@ pub record PoolOk (p : Pool) (width link : ℕ) (t : List ℕ) : Type 0 where
   pub zeros : Zeros t (p .extent * width)
   pub chain : Linked (cell width t 0) (cell width t link) (p .extent) (p .extent - p .live) (p .root)
 
--- Sound 6 and Ticket 1 of a shared slot; and of all
+-- Sound 6 and Tickets 1 and 6 of a shared slot; and of all
 pub record HeaderOk (s : List ℕ) (c : ℕ) : Type 0 where
-  pub free : countOf s c ≡ 0 → valueOf s c ≡ 0
+  pub free : countOf s c ≡ 0 → (valueOf s c ≡ 0) × (totalOf s c ≡ 0)
   pub live : countOf s c ≢ 0 → nextFreeOf s c ≡ 0
   pub mark : (markOf s c ≤ 1) × (markOf s c ≤ countOf s c)
 

@@ -4,6 +4,7 @@ use rules::HEADER;
 use rules::MARK;
 use rules::NEXT_FREE;
 use rules::Pool;
+use rules::TOTAL;
 use rules::VALUE;
 ghost use Prim.Native.Nat.{_*_, _≤_, _<_};
 ghost use lib.ListN.{length};
@@ -97,6 +98,9 @@ pub fn headers_ok(s: &[u64], extent: u64) -> bool
         }
         if count == 0 {
             if slots::get(s, HEADER, VALUE, c) != 0 {
+                return false;
+            }
+            if slots::get(s, HEADER, TOTAL, c) != 0 {
                 return false;
             }
             continue;

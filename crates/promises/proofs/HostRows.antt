@@ -6,7 +6,7 @@ use mathlib.Core.List.{List, [], _∷_, map}
 use lib.ListN.{replicate}
 use Rattle.rules.specs.declared.Head.{Head}
 use Rattle.rules.specs.Refusals.{Said, Outcome}
-use Rattle.rules.specs.Calls.{Call, lenSurject, inSameSurject, getElement, getShared, lookup, setElement, setShared, check, newRun, insert, union, remove, removeShared, list, drain, drainAll, clear, exchange, compress}
+use Rattle.rules.specs.Calls.{Call, lenSurject, inSameSurject, getElement, getShared, getSize, getTotal, lookup, setElement, setShared, check, newRun, insert, union, remove, removeShared, list, drain, drainAll, clear, exchange, compress}
 use Rattle.rules.proofs.Cases.{key, pool}
 use Rattle.numbers.specs.Numbers.{headOf, values, valuesOver, removalNumbers}
 use Rattle.promises.specs.Host.{keyOf, keysOf, isSet, Left, left, shown}
@@ -78,8 +78,8 @@ tells-over = refl
 
 abbrev plain : List Call
 plain =
-    newRun 1 2 ∷ insert (key 5 7) 1 ∷ union (key 5 7) (key 6 8) ∷ drain (key 5 7) ∷ drainAll ∷ list (key 5 7) ∷ lenSurject (key 5 7) ∷ inSameSurject (key 5 7) (key 6 8) ∷
-    getElement (key 5 7) ∷ getShared (key 5 7) ∷ lookup (key 5 7) ∷ setElement (key 5 7) 1 ∷ setShared (key 5 7) 2 ∷ exchange [] [] ∷ check ∷ []
+    newRun 1 2 0 ∷ insert (key 5 7) 1 0 ∷ union (key 5 7) (key 6 8) ∷ drain (key 5 7) ∷ drainAll ∷ list (key 5 7) ∷ lenSurject (key 5 7) ∷ inSameSurject (key 5 7) (key 6 8) ∷
+    getElement (key 5 7) ∷ getShared (key 5 7) ∷ getSize (key 5 7) ∷ getTotal (key 5 7) ∷ lookup (key 5 7) ∷ setElement (key 5 7) 1 ∷ setShared (key 5 7) 2 ∷ exchange [] [] ∷ check ∷ []
 
-tells-values : told plain ≡ replicate 15 (61 ∷ 62 ∷ [])
+tells-values : told plain ≡ replicate 17 (61 ∷ 62 ∷ [])
 tells-values = refl

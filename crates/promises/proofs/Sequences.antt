@@ -14,7 +14,7 @@ use Rattle.rules.specs.Refusals.{Ruling, Said, Outcome, outcome}
 use Rattle.rules.specs.Slots
 use Rattle.rules.specs.Slots.{isFull}
 use Rattle.rules.specs.Runs
-use Rattle.rules.specs.Calls.{Call, lenSurject, inSameSurject, getElement, getShared, lookup, setElement, setShared, check, newRun, insert, union, remove, removeShared, list, drain, seal, drainAll, clear, exchange, compress, compressWith, step, freshStep, AtDoor}
+use Rattle.rules.specs.Calls.{Call, lenSurject, inSameSurject, getElement, getShared, getSize, getTotal, lookup, setElement, setShared, check, newRun, insert, union, remove, removeShared, list, drain, seal, drainAll, clear, exchange, compress, compressWith, step, freshStep, AtDoor}
 use Rattle.rules.specs.History.{History, accepted, noted, notedFresh, nothing}
 use Rattle.rules.specs.Demand.{After, start, fresh, call, Union}
 use Rattle.rules.proofs.laws.Rulings.{by-test, by-key}
@@ -28,8 +28,8 @@ use Rattle.promises.specs.Sequence.{numbersOf, heard, lentState, AfterEn
 
 -- the history takes from the numbers in `out` what it takes from the answer: the key of a frame put in
 accepted-heard : (h : History) (c : Call) (said : Said) → accepted h c (numbersOf c said) ≡ accepted h c (said .values)
-accepted-heard h (newRun payload value) said = refl
-accepted-heard h (insert k payload) said = refl
+accepted-heard h (newRun payload value size) said = refl
+accepted-heard h (insert k payload size) said = refl
 accepted-heard h (union j k) said = refl
 accepted-heard h (remove k) said = refl
 accepted-heard h (removeShared k) said = refl
@@ -43,6 +43,8 @@ accepted-heard h (lenSurject k) said = refl
 accepted-heard h (inSameSurject j k) said = refl
 accepted-heard h (getElement k) said = refl
 accepted-heard h (getShared k) said = refl
+accepted-heard h (getSize k) said = refl
+accepted-heard h (getTotal k) said = refl
 accepted-heard h (lookup k) said = refl
 accepted-heard h (setElement k payload) said = refl
 accepted-heard h (setShared k value) said = refl
@@ -117,9 +119,9 @@ module _ (st : State) (k : Key) where
   abbrev unlent : Ruling → Type 0
   unlent r = outcome st [] r .lent ≡ []
 
-  pub insert-unlent : (payload : ℕ) → step st [] (insert k payload) .lent ≡ []
+  pub insert-unlent : (payload size : ℕ) → step st [] (insert k payload size) .lent ≡ []
   unfolding Runs.insert
-  insert-unlent payload = by-key unlent (λ r. refl) st k _ (λ l. by-test unlent (isSealed st (k .slot)) _ _ (λ s. refl) (λ s. by-test unlent (isFull (st .head .elems)) _ _ (λ e. refl) (λ e. refl)))
+  insert-unlent payload size = by-key unlent (λ r. refl) st k _ (λ l. by-test unlent (isSealed st (k .slot)) _ _ (λ s. refl) (λ s. by-test unlent (isFull (st .head .elems)) _ _ (λ e. refl) (λ e. refl)))
 
   pub remove-unlent : step st [] (remove k) .lent ≡ []
   unfolding Runs.remove

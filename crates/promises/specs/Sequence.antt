@@ -6,7 +6,7 @@ use mathlib.Core.List.{List, []}
 use Rattle.rules.specs.declared.Key.{Key}
 use Rattle.rules.specs.Tables.{State, stateOf}
 use Rattle.rules.specs.Refusals.{Said}
-use Rattle.rules.specs.Calls.{Call, lenSurject, inSameSurject, getElement, getShared, lookup, setElement, setShared, check, newRun, insert, union, remove, removeShared, list, drain, seal, drainAll, clear, exchange, compress, compressWith}
+use Rattle.rules.specs.Calls.{Call, lenSurject, inSameSurject, getElement, getShared, getSize, getTotal, lookup, setElement, setShared, check, newRun, insert, union, remove, removeShared, list, drain, seal, drainAll, clear, exchange, compress, compressWith}
 use Rattle.rules.specs.History.{History, noted, notedFresh, nothing}
 use Rattle.rules.specs.Demand.{Agrees, Union}
 use Rattle.numbers.specs.Numbers.{headOf, values, valuesOver, removalNumbers}
@@ -20,8 +20,8 @@ numbersOf (removeShared k) = valuesOver
 numbersOf clear = valuesOver
 numbersOf (compress reset) = valuesOver
 numbersOf (compressWith reset) = valuesOver
-numbersOf (newRun payload value) = values
-numbersOf (insert k payload) = values
+numbersOf (newRun payload value size) = values
+numbersOf (insert k payload size) = values
 numbersOf (union j k) = values
 numbersOf (drain k) = values
 numbersOf (seal k) = values
@@ -31,6 +31,8 @@ numbersOf (lenSurject k) = values
 numbersOf (inSameSurject j k) = values
 numbersOf (getElement k) = values
 numbersOf (getShared k) = values
+numbersOf (getSize k) = values
+numbersOf (getTotal k) = values
 numbersOf (lookup k) = values
 numbersOf (setElement k payload) = values
 numbersOf (setShared k value) = values

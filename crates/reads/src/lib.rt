@@ -11,13 +11,15 @@ use rules::Key;
 use rules::Number;
 use rules::PAYLOAD;
 use rules::Refusal;
+use rules::SIZE;
 use rules::Same;
+use rules::TOTAL;
 use rules::VALUE;
 ghost use mathlib.Core.Path.{_≡_};
 ghost use mathlib.Core.Bool.{false};
 ghost use mathlib.Core.List.{[]};
 ghost use Rattle.rules.specs.Tables.{stateOf};
-ghost use Rattle.rules.specs.Calls.{Ready, step, lenSurject, inSameSurject, getElement, getShared, lookup};
+ghost use Rattle.rules.specs.Calls.{Ready, step, lenSurject, inSameSurject, getElement, getShared, getSize, getTotal, lookup};
 ghost use Rattle.rules.specs.Answers.{leaves, saidDone, saidNumber, saidSame};
 
 // The number of frames in the key's class.
@@ -76,6 +78,31 @@ pub fn get_shared(head: Head, elems: &[u64], shared: &[u64], key: Key) -> Number
     };
     let class = slots::get(elems, FRAME, CLASS, x);
     Number::Is(slots::get(shared, HEADER, VALUE, class))
+}
+
+// Ticket 6: the frame's size.
+pub fn get_size(head: Head, elems: &[u64], shared: &[u64], key: Key) -> Number
+    requires { ⌜ Ready (stateOf head (now elems) (now shared)) ⌝ }
+    ensures { λ r. ⌜ leaves head (now (elems .entry)) (now (shared .entry)) [] (saidNumber r false) ≡ step (stateOf head (now (elems .entry)) (now (shared .entry))) [] (getSize key) ⌝ }
+{
+    let x = match slots::find(head, elems, key) {
+        Found::Live(x) => x,
+        Found::Dead(cause) => return Number::Refused(Refusal::Dead(cause)),
+    };
+    Number::Is(slots::get(elems, FRAME, SIZE, x))
+}
+
+// Ticket 6: the total of its run.
+pub fn get_total(head: Head, elems: &[u64], shared: &[u64], key: Key) -> Number
+    requires { ⌜ Ready (stateOf head (now elems) (now shared)) ⌝ }
+    ensures { λ r. ⌜ leaves head (now (elems .entry)) (now (shared .entry)) [] (saidNumber r false) ≡ step (stateOf head (now (elems .entry)) (now (shared .entry))) [] (getTotal key) ⌝ }
+{
+    let x = match slots::find(head, elems, key) {
+        Found::Live(x) => x,
+        Found::Dead(cause) => return Number::Refused(Refusal::Dead(cause)),
+    };
+    let class = slots::get(elems, FRAME, CLASS, x);
+    Number::Is(slots::get(shared, HEADER, TOTAL, class))
 }
 
 // Ticket 5: whether the key is live, and why not.

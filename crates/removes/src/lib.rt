@@ -12,6 +12,8 @@ use rules::PAYLOAD;
 use rules::Refusal;
 use rules::Removed;
 use rules::Rest;
+use rules::SIZE;
+use rules::TOTAL;
 use rules::VALUE;
 ghost use mathlib.Core.Path.{_≡_};
 ghost use mathlib.Core.List.{List, []};
@@ -36,10 +38,10 @@ pub struct Removal {
     pub over: bool,
 }
 
-// A frame leaves the class: the last one frees its shared slot.
-fn leave(head: Head, shared: &mut [u64], class: u64) -> Left
-    requires { ⌜ Leaves head (now shared) class ⌝ }
-    ensures { λ r. ⌜ ((e : List ℕ) → LeftClass (stateOf head e (now (shared .entry))) class r (now (shared .exit))) ⌝ }
+// A frame of `size` bytes leaves the class: the last one frees its shared slot.
+fn leave(head: Head, shared: &mut [u64], class: u64, size: u64) -> Left
+    requires { ⌜ Leaves head (now shared) class size ⌝ }
+    ensures { λ r. ⌜ ((e : List ℕ) → LeftClass (stateOf head e (now (shared .entry))) class size r (now (shared .exit))) ⌝ }
 {
     let count = slots::get(shared, HEADER, COUNT, class);
     if count == 1 {
@@ -50,7 +52,8 @@ fn leave(head: Head, shared: &mut [u64], class: u64) -> Left
             rest: Rest::Last(value),
         };
     }
-    slots::put(shared, HEADER, class, COUNT, count - 1);
+    let total = slots::get(shared, HEADER, TOTAL, class);
+    slots::recount(shared, class, count - 1, total - size);
     Left {
         head,
         rest: Rest::GoesOn,
@@ -64,9 +67,10 @@ pub fn remove_at(head: Head, elems: &mut [u64], shared: &mut [u64], x: u64) -> R
 {
     let class = slots::get(elems, FRAME, CLASS, x);
     let payload = slots::get(elems, FRAME, PAYLOAD, x);
+    let size = slots::get(elems, FRAME, SIZE, x);
     slots::unlink(elems, x);
     let freed = slots::free_frame(head, elems, x);
-    let left = leave(freed, shared, class);
+    let left = leave(freed, shared, class, size);
     let rest = left.rest;
     let kept = left.head;
     let raised = kept.raise();

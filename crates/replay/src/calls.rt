@@ -21,8 +21,8 @@ pub struct Next {
 
 pub fn make(
     head: Head,
-    elems: &mut [u64; 80],
-    shared: &mut [u64; 64],
+    elems: &mut [u64; 96],
+    shared: &mut [u64; 80],
     given: &mut [u64; 512],
     record: &[u8; 32],
 ) -> Next {

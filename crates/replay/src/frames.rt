@@ -38,7 +38,7 @@ fn begin(
     given: &mut [u64; 512],
     record: &[u8; 32],
 ) -> Next {
-    let step = door::insert_surject(head, elems, shared, number(record[5]), number(record[6]));
+    let step = door::insert_surject(head, elems, shared, number(record[5]), number(record[6]), 0);
     let answer = step.answer;
     let after = step.head;
     let same = is_inserted(answer, record[1], given, record);
@@ -58,6 +58,7 @@ fn insert(
         shared,
         key(given, record[1]),
         number(record[5]),
+        0,
     );
     let answer = step.answer;
     let after = step.head;

@@ -10,8 +10,8 @@ use heads::unpack;
 // Replays the next record, and answers whether to go on.
 fn replay_one(
     head: &mut [u64; 9],
-    elems: &mut [u64; 80],
-    shared: &mut [u64; 64],
+    elems: &mut [u64; 96],
+    shared: &mut [u64; 80],
     given: &mut [u64; 512],
     made: &mut u64,
 ) -> bool {
@@ -43,8 +43,8 @@ fn tell(made: u64) {
 
 fn main() {
     let mut head = [0u64; 9];
-    let mut elems = [0u64; 80];
-    let mut shared = [0u64; 64];
+    let mut elems = [0u64; 96];
+    let mut shared = [0u64; 80];
     let mut given = [0u64; 512];
     let mut made: u64 = 0;
     let mut turns = u64::MAX;

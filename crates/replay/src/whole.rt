@@ -10,8 +10,8 @@ use sample::is_number;
 
 pub fn make(
     head: Head,
-    elems: &mut [u64; 80],
-    shared: &mut [u64; 64],
+    elems: &mut [u64; 96],
+    shared: &mut [u64; 80],
     given: &mut [u64; 512],
     record: &[u8; 32],
 ) -> Next {
@@ -34,8 +34,8 @@ pub fn make(
 // A sequence begins with new tables.
 fn fresh(
     head: Head,
-    elems: &mut [u64; 80],
-    shared: &mut [u64; 64],
+    elems: &mut [u64; 96],
+    shared: &mut [u64; 80],
     given: &mut [u64; 512],
     record: &[u8; 32],
 ) -> Next {
@@ -49,8 +49,8 @@ fn fresh(
 
 fn drain(
     head: Head,
-    elems: &mut [u64; 80],
-    shared: &mut [u64; 64],
+    elems: &mut [u64; 96],
+    shared: &mut [u64; 80],
     given: &[u64; 512],
     record: &[u8; 32],
 ) -> Next {
@@ -62,7 +62,7 @@ fn drain(
     Next { head: after, same }
 }
 
-fn drain_all(head: Head, elems: &mut [u64; 80], shared: &mut [u64; 64], record: &[u8; 32]) -> Next {
+fn drain_all(head: Head, elems: &mut [u64; 96], shared: &mut [u64; 80], record: &[u8; 32]) -> Next {
     let mut records = [0u64; 96];
     let step = door::drain_all(head, elems, shared, &mut records);
     let answer = step.answer;
@@ -71,7 +71,7 @@ fn drain_all(head: Head, elems: &mut [u64; 80], shared: &mut [u64; 64], record: 
     Next { head: after, same }
 }
 
-fn clear(head: Head, elems: &mut [u64; 80], shared: &mut [u64; 64], record: &[u8; 32]) -> Next {
+fn clear(head: Head, elems: &mut [u64; 96], shared: &mut [u64; 80], record: &[u8; 32]) -> Next {
     let step = door::clear(head, elems, shared);
     let answer = step.answer;
     let after = step.head;
@@ -82,12 +82,12 @@ fn clear(head: Head, elems: &mut [u64; 80], shared: &mut [u64; 64], record: &[u8
 // Compression gives every frame a new key.
 fn compress(
     head: Head,
-    elems: &mut [u64; 80],
-    shared: &mut [u64; 64],
+    elems: &mut [u64; 96],
+    shared: &mut [u64; 80],
     given: &mut [u64; 512],
     record: &[u8; 32],
 ) -> Next {
-    let mut scratch = [0u64; 80];
+    let mut scratch = [0u64; 96];
     let step = door::compress_canonical(head, elems, shared, &mut scratch, record[5] == 1);
     let answer = step.answer;
     let after = step.head;

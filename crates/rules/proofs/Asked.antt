@@ -14,7 +14,7 @@ use Rattle.rules.specs.declared.Cause.the-variants.{NoSlot, FreeSlot, Ot
 use Rattle.rules.specs.declared.Refusal.the-variants.{Shape, Unsound, Dead, SameClass, NoElement, NoShared, Short, Malformed, Sealed}
 use Rattle.rules.specs.Tables.{State}
 use Rattle.rules.specs.Refusals.{numberOf, causeNumber, valuesOf}
-use Rattle.rules.specs.Calls.{Call, lenSurject, inSameSurject, getElement, getShared, lookup, setElement, setShared, check, newRun, insert, union, remove, removeShared, list, drain, seal, drainAll, clear, exchange, compress, compressWith}
+use Rattle.rules.specs.Calls.{Call, lenSurject, inSameSurject, getElement, getShared, getSize, getTotal, lookup, setElement, setShared, check, newRun, insert, union, remove, removeShared, list, drain, seal, drainAll, clear, exchange, compress, compressWith}
 use Rattle.rules.specs.Exact.{Asks, asks, Why, sooner, Because, Sentence, earlier, Given, Accepted}
 use Rattle.rules.proofs.Cases.{rules, key, pool, at, e, s, m}
 use Rattle.rules.proofs.Worked.{three, four, goesOn, single}
@@ -32,10 +32,12 @@ a = key 2 1
 abbrev b : Key
 b = key 1 1
 
-pub asked : map (asks goesOn) (lenSurject a ∷ inSameSurject a b ∷ getElement a ∷ getShared a ∷ lookup a ∷ setElement a 9 ∷ setShared a 9 ∷ check ∷ newRun 9 9 ∷ insert a 9 ∷ union a b ∷ remove a ∷ removeShared a ∷ list a ∷ drain a ∷ seal a ∷ clear ∷ exchange (a ∷ b ∷ []) (9 ∷ 9 ∷ []) ∷ drainAll ∷ [])
+pub asked : map (asks goesOn) (lenSurject a ∷ inSameSurject a b ∷ getElement a ∷ getShared a ∷ getSize a ∷ getTotal a ∷ lookup a ∷ setElement a 9 ∷ setShared a 9 ∷ check ∷ newRun 9 9 0 ∷ insert a 9 0 ∷ union a b ∷ remove a ∷ removeShared a ∷ list a ∷ drain a ∷ seal a ∷ clear ∷ exchange (a ∷ b ∷ []) (9 ∷ 9 ∷ []) ∷ drainAll ∷ [])
     ++ map (asks single) (compress true ∷ compressWith true ∷ [])
     ≡ want (a ∷ []) false false false false 0
     ∷ want (a ∷ b ∷ []) false false false false 0
+    ∷ want (a ∷ []) false false false false 0
+    ∷ want (a ∷ []) false false false false 0
     ∷ want (a ∷ []) false false false false 0
     ∷ want (a ∷ []) false false false false 0
     ∷ want (a ∷ []) false false false false 0
@@ -53,7 +55,7 @@ pub asked : map (asks goesOn) (lenSurject a ∷ inSameSurject a b ∷ getElement
     ∷ want [] false false false false 0
     ∷ want (a ∷ b ∷ []) true false false false 0
     ∷ want [] false false false false 18
-    ∷ want [] false false false false 20
+    ∷ want [] false false false false 24
     ∷ want [] false false false false 4
     ∷ []
 unfolding rules
@@ -235,7 +237,7 @@ pub not-accepted : (Accepted none [] check → ⊥) × (Accepted trap [] check �
 unfolding rules
 not-accepted = ((λ n. n .0 refl), (λ n. n .1 .0 trap-unsound), (λ n. n .1 .1 .0 (inl past)), (λ n. n .1 .1 .1 .1 .1 .0 (tt, inl (inl refl))))
 
-pub not-accepted-slots : (Accepted (room 2 2) [] (insert (key 2 1) 9) → ⊥) × (Accepted (room 3 2) [] (newRun 9 9) → ⊥) × (Accepted (room 2 2) [] (insert (key 1 1) 9) → ⊥) × (Accepted three (replicate 5 0) (list (key 1 1)) → ⊥)
+pub not-accepted-slots : (Accepted (room 2 2) [] (insert (key 2 1) 9 0) → ⊥) × (Accepted (room 3 2) [] (newRun 9 9 0) → ⊥) × (Accepted (room 2 2) [] (insert (key 1 1) 9 0) → ⊥) × (Accepted three (replicate 5 0) (list (key 1 1)) → ⊥)
 unfolding rules
 not-accepted-slots = ((λ n. n .1 .1 .1 .1 .1 .1 .0 (tt, inl tt)), (λ n. n .1 .1 .1 .1 .1 .1 .1 .0 (tt, (refl, refl))), (λ n. n .1 .1 .1 .1 .1 .1 .1 .1 .0 (tt, (refl, refl))), (λ n. n .1 .1 .1 .1 .1 .1 .1 .1 .1 .0 (lit< tt)))
 

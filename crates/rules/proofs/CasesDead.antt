@@ -6,7 +6,7 @@ use lib.ListN.{replicate}
 use Rattle.rules.specs.declared.Key.{Key}
 use Rattle.rules.specs.Tables.{State, frameWidth}
 use Rattle.rules.specs.Refusals.{Outcome}
-use Rattle.rules.specs.Calls.{Call, lenSurject, inSameSurject, getElement, getShared, lookup, setElement, setShared, insert, union, remove, removeShared, list, drain, seal, exchange, step}
+use Rattle.rules.specs.Calls.{Call, lenSurject, inSameSurject, getElement, getShared, getSize, getTotal, lookup, setElement, setShared, insert, union, remove, removeShared, list, drain, seal, exchange, step}
 use Rattle.rules.proofs.Cases.{rules, key, ok, dead, pool, at, e, s, zeros}
 use Rattle.rules.proofs.Worked.{fresh43}
 
@@ -33,7 +33,7 @@ old = key 1 6
 -- every kind of call with a key, at each place where it takes one
 abbrev kinds : Key → List Call
 kinds k =
-    lenSurject k ∷ getElement k ∷ getShared k ∷ lookup k ∷ setElement k 9 ∷ setShared k 9 ∷ insert k 9 ∷ remove k ∷ removeShared k ∷ list k ∷ drain k ∷ seal k ∷
+    lenSurject k ∷ getElement k ∷ getShared k ∷ getSize k ∷ getTotal k ∷ lookup k ∷ setElement k 9 ∷ setShared k 9 ∷ insert k 9 0 ∷ remove k ∷ removeShared k ∷ list k ∷ drain k ∷ seal k ∷
     inSameSurject k a ∷ inSameSurject a k ∷ union k a ∷ union a k ∷
     exchange (k ∷ a ∷ b ∷ a ∷ []) (1 ∷ 2 ∷ 3 ∷ 4 ∷ []) ∷ exchange (a ∷ k ∷ b ∷ a ∷ []) (1 ∷ 2 ∷ 3 ∷ 4 ∷ []) ∷
     exchange (a ∷ b ∷ k ∷ a ∷ []) (1 ∷ 2 ∷ 3 ∷ 4 ∷ []) ∷ exchange (a ∷ b ∷ a ∷ k ∷ []) (1 ∷ 2 ∷ 3 ∷ 4 ∷ []) ∷ []
@@ -41,15 +41,15 @@ kinds k =
 abbrev each : Key → List Outcome
 each k = map (step holed (9 ∷ [])) (kinds k)
 
-pub cause-1 : each past ≡ replicate 20 (dead 1 holed (9 ∷ []))
+pub cause-1 : each past ≡ replicate 22 (dead 1 holed (9 ∷ []))
 unfolding rules
 cause-1 = refl
 
-pub cause-2 : each free ≡ replicate 20 (dead 2 holed (9 ∷ []))
+pub cause-2 : each free ≡ replicate 22 (dead 2 holed (9 ∷ []))
 unfolding rules
 cause-2 = refl
 
-pub cause-3 : each old ≡ replicate 20 (dead 3 holed (9 ∷ []))
+pub cause-3 : each old ≡ replicate 22 (dead 3 holed (9 ∷ []))
 unfolding rules
 cause-3 = refl
 

@@ -14,7 +14,7 @@ use Rattle.rules.specs.Calls.{compress, compressWith, Ready, step}
 use Rattle.rules.specs.Renaming as by-compress
 use Rattle.rules.specs.Renaming.{SameRuns, framesBy, classesBy, Renaming}
 use Rattle.rules.specs.Answers.{saidNumber}
-use Rattle.rules.specs.History.{History, noted, sorted, begunAt, ordered, renamed, movedDown}
+use Rattle.rules.specs.History.{History, Given, noted, sorted, begunAt, ordered, renamed, movedDown}
 use Rattle.rules.proofs.Cases.{rules, Case, _gives_, did, says, key, ok, over, refused, pool, at, e, s, m, zeros}
 use Rattle.rules.proofs.Worked.{fresh43, drained, zeroed, reused, canonical}
 
@@ -75,10 +75,10 @@ table =
     step fresh43 [] (compressWith false) gives ok (0 ∷ []) bare [] ∷
     step drained (9 ∷ []) (compressWith false) gives ok (0 ∷ []) zeroed (9 ∷ []) ∷
     -- P11's state under both: the tables are the same, the answers differ
-    step reused (replicate 20 0) (compress false) gives ok [] canonical (replicate 20 0) ∷
+    step reused (replicate 24 0) (compress false) gives ok [] canonical (replicate 24 0) ∷
     step reused (replicate 8 0) (compressWith false) gives ok (2 ∷ []) canonical (1 ∷ 2 ∷ 1 ∷ 3 ∷ 2 ∷ 1 ∷ 2 ∷ 3 ∷ []) ∷
     -- Canonical order is another one where runs lie across each other
-    step (holed 7) (replicate 30 9) (compress false) gives ok [] (byRuns 8) (replicate 30 0) ∷
+    step (holed 7) (replicate 36 9) (compress false) gives ok [] (byRuns 8) (replicate 36 0) ∷
     []
 
 pub moved : map did table ≡ map says table
@@ -95,18 +95,21 @@ spoken = refl
 abbrev runs : List (List Key)
 runs = (key 5 3 ∷ key 2 1 ∷ []) ∷ (key 4 2 ∷ []) ∷ []
 
-abbrev before : History
-before = record { runs = runs; sealed = key 4 2 ∷ []; put = 5; taken = 2; generation = 7 }
+abbrev given : Key → ℕ → Given
+given k z = record { key = k; bytes = z }
 
-abbrev after : List (List Key) → List Key → (generation : ℕ) → History
-after rs ks g = record { runs = rs; sealed = ks; put = 5; taken = 2; generation = g }
+abbrev before : History
+before = record { runs = runs; sealed = key 4 2 ∷ []; sizes = given (key 4 2) 9 ∷ given (key 5 3) 7 ∷ given (key 2 1) 8 ∷ []; put = 5; taken = 2; generation = 7 }
+
+abbrev after : List (List Key) → List Key → List Given → (generation : ℕ) → History
+after rs ks gs g = record { runs = rs; sealed = ks; sizes = gs; put = 5; taken = 2; generation = g }
 
 pub renamed-by-slot : map (λ (reset : Bool). noted before (compressWith reset) (step (holed 7) (replicate 12 0) (compressWith reset) .said)) (false ∷ true ∷ [])
-    ≡ after ((key 3 8 ∷ key 1 8 ∷ []) ∷ (key 2 8 ∷ []) ∷ []) (key 2 8 ∷ []) 8 ∷ after ((key 3 1 ∷ key 1 1 ∷ []) ∷ (key 2 1 ∷ []) ∷ []) (key 2 1 ∷ []) 1 ∷ []
+    ≡ after ((key 3 8 ∷ key 1 8 ∷ []) ∷ (key 2 8 ∷ []) ∷ []) (key 2 8 ∷ []) (given (key 2 8) 9 ∷ given (key 3 8) 7 ∷ given (key 1 8) 8 ∷ []) 8 ∷ after ((key 3 1 ∷ key 1 1 ∷ []) ∷ (key 2 1 ∷ []) ∷ []) (key 2 1 ∷ []) (given (key 2 1) 9 ∷ given (key 3 1) 7 ∷ given (key 1 1) 8 ∷ []) 1 ∷ []
 unfolding rules movedDown
 renamed-by-slot = refl
 
-pub renamed-by-run : noted before (compress false) (step (holed 7) (replicate 30 0) (compress false) .said) ≡ after ((key 2 8 ∷ key 1 8 ∷ []) ∷ (key 3 8 ∷ []) ∷ []) (key 3 8 ∷ []) 8
+pub renamed-by-run : noted before (compress false) (step (holed 7) (replicate 36 0) (compress false) .said) ≡ after ((key 2 8 ∷ key 1 8 ∷ []) ∷ (key 3 8 ∷ []) ∷ []) (key 3 8 ∷ []) (given (key 3 8) 9 ∷ given (key 2 8) 7 ∷ given (key 1 8) 8 ∷ []) 8
 unfolding rules sorted begunAt ordered renamed
 renamed-by-run = refl
 
@@ -126,7 +129,7 @@ claimed claim R = claim (holed 7) R (replicate 12 9) (compressWith false) (by-co
 
 pub claimed-canonical : Renaming → Ready (holed 7) → SameRuns (holed 7) (byRuns 8) (placeOf (2 ∷ 5 ∷ 4 ∷ [])) (placeOf (3 ∷ 1 ∷ []))
 unfolding rules
-claimed-canonical claim R = claim (holed 7) R (replicate 30 9) (compress false) (by-compress.canonical false) refl
+claimed-canonical claim R = claim (holed 7) R (replicate 36 9) (compress false) (by-compress.canonical false) refl
 
 -- an extent becomes the live number and a root 0; the capacity stays
 pub packs : packed (pool 6 5 3 2) ≡ pool 6 2 0 2

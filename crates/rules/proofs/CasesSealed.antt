@@ -136,24 +136,24 @@ table =
     step three (replicate 8 9) (seal (key 2 1)) gives refused 7 three (replicate 8 9) ∷
     step three [] (seal (key 2 1)) gives refused 7 three [] ∷
     -- 12: insert, union from either side, and sealing twice
-    step three1 [] (insert (key 1 1) 13) gives refused 12 three1 [] ∷
+    step three1 [] (insert (key 1 1) 13 0) gives refused 12 three1 [] ∷
     step four1 [] (union (key 1 1) (key 4 1)) gives refused 12 four1 [] ∷
     step four1 [] (union (key 4 1) (key 1 1)) gives refused 12 four1 [] ∷
     step four2 [] (union (key 1 1) (key 4 1)) gives refused 12 four2 [] ∷
     step four2 [] (union (key 4 1) (key 1 1)) gives refused 12 four2 [] ∷
     step three1 (replicate 9 9) (seal (key 3 1)) gives refused 12 three1 (replicate 9 9) ∷
     -- 3 and 4 before 12
-    step three1 [] (insert (key 1 2) 13) gives dead 3 three1 [] ∷
+    step three1 [] (insert (key 1 2) 13 0) gives dead 3 three1 [] ∷
     step three1 [] (union (key 1 1) (key 4 1)) gives dead 1 three1 [] ∷
     step three1 [] (union (key 4 1) (key 1 1)) gives dead 1 three1 [] ∷
     step three1 (replicate 9 9) (seal (key 4 1)) gives dead 1 three1 (replicate 9 9) ∷
     step three1 [] (union (key 1 1) (key 2 1)) gives refused 4 three1 [] ∷
     -- 12 before 5 and before 7
-    step four1 [] (insert (key 1 1) 13) gives refused 12 four1 [] ∷
-    step four1 [] (insert (key 4 1) 13) gives refused 5 four1 [] ∷
+    step four1 [] (insert (key 1 1) 13 0) gives refused 12 four1 [] ∷
+    step four1 [] (insert (key 4 1) 13 0) gives refused 5 four1 [] ∷
     step three1 [] (seal (key 3 1)) gives refused 12 three1 [] ∷
     -- Other runs go on
-    step trio [] (insert (key 1 1) 13) gives ok (4 ∷ 1 ∷ []) trioPut [] ∷
+    step trio [] (insert (key 1 1) 13 0) gives ok (4 ∷ 1 ∷ []) trioPut [] ∷
     step trio [] (union (key 1 1) (key 2 1)) gives ok (200 ∷ 1 ∷ 1 ∷ 1 ∷ []) trioJoined [] ∷
     -- Reading, setting, removing and draining stay allowed; the mark stays as long as the run
     step three1 [] (lenSurject (key 1 1)) gives ok (3 ∷ []) three1 [] ∷
@@ -163,14 +163,14 @@ table =
     step three1 [] (setShared (key 2 1) 101) gives ok (100 ∷ []) valueSet [] ∷
     step trio [] (exchange (key 3 1 ∷ key 2 1 ∷ []) (301 ∷ 201 ∷ [])) gives ok (300 ∷ 200 ∷ []) trioExchanged [] ∷
     step three1 [] (remove (key 2 1)) gives ok (11 ∷ []) less [] ∷
-    step less [] (insert (key 1 1) 13) gives refused 12 less [] ∷
+    step less [] (insert (key 1 1) 13 0) gives refused 12 less [] ∷
     step three1 (replicate 18 0) (drain (key 2 1)) gives ok (3 ∷ []) drained (r 2 1 11 0 0 0 ++ r 1 1 10 0 0 0 ++ r 3 1 12 1 100 0) ∷
     step three1 [] (removeShared (key 3 1)) gives ok (100 ∷ []) ringGone [] ∷
     step one1 [] (remove (key 1 1)) gives ok (10 ∷ 100 ∷ []) lastGone [] ∷
     -- A new run in the freed slot is not sealed
-    step drained [] (newRun 30 300) gives ok (3 ∷ 4 ∷ []) begunAgain [] ∷
+    step drained [] (newRun 30 300 0) gives ok (3 ∷ 4 ∷ []) begunAgain [] ∷
     -- Compression carries the mark; clear, fresh and drain all drop it
-    step low (replicate 20 0) (compress true) gives ok [] lowReset (replicate 20 0) ∷
+    step low (replicate 24 0) (compress true) gives ok [] lowReset (replicate 24 0) ∷
     step three1 [] clear gives ok [] (emptied 2) [] ∷
     freshStep three1 4 3 gives ok [] fresh43 [] ∷
     step one1 (replicate 6 0) drainAll gives ok (1 ∷ []) (emptied 3) (r 1 1 10 1 100 0) ∷
@@ -194,14 +194,14 @@ recalled st h [] = h .sealed
 recalled st h (c ∷ cs) = let o = step st (replicate 24 0) c in recalled (o .state) (noted h c (o .said)) cs
 
 abbrev calls : List Call
-calls = newRun 10 100 ∷ insert (key 1 1) 11 ∷ newRun 20 200 ∷ seal (key 2 1) ∷ []
+calls = newRun 10 100 0 ∷ insert (key 1 1) 11 0 ∷ newRun 20 200 0 ∷ seal (key 2 1) ∷ []
 
 abbrev rows : List (List Call)
 rows =
     calls ∷
     -- refused calls change nothing; other runs go on
-    (calls ++ insert (key 1 1) 12 ∷ union (key 3 1) (key 1 1) ∷ seal (key 1 1) ∷ insert (key 3 1) 21 ∷ []) ∷
-    (calls ++ newRun 30 300 ∷ union (key 3 1) (key 4 1) ∷ []) ∷
+    (calls ++ insert (key 1 1) 12 0 ∷ union (key 3 1) (key 1 1) ∷ seal (key 1 1) ∷ insert (key 3 1) 21 0 ∷ []) ∷
+    (calls ++ newRun 30 300 0 ∷ union (key 3 1) (key 4 1) ∷ []) ∷
     (calls ++ lenSurject (key 3 1) ∷ getShared (key 3 1) ∷ setElement (key 3 1) 9 ∷ setShared (key 3 1) 9 ∷ exchange (key 3 1 ∷ key 1 1 ∷ []) (9 ∷ 9 ∷ []) ∷ list (key 3 1) ∷ []) ∷
     (calls ++ seal (key 3 1) ∷ []) ∷
     (calls ++ remove (key 2 1) ∷ []) ∷
@@ -211,7 +211,7 @@ rows =
     (calls ++ drain (key 3 1) ∷ []) ∷
     (calls ++ compress true ∷ remove (key 3 1) ∷ []) ∷
     -- a key that is given anew is not sealed: the reset brings it back
-    (calls ++ drain (key 2 1) ∷ compress true ∷ newRun 40 400 ∷ []) ∷
+    (calls ++ drain (key 2 1) ∷ compress true ∷ newRun 40 400 0 ∷ []) ∷
     (calls ++ drainAll ∷ []) ∷
     (calls ++ clear ∷ []) ∷
     []
@@ -235,5 +235,5 @@ pub recalls : map (recalled fresh43 nothing) rows
 unfolding rules recalled othersOf runsBut insertedRuns joinedRuns removedRuns sorted begunAt ordered renamed
 recalls = refl
 
-pub freshened : notedFresh (record { runs = (key 1 1 ∷ []) ∷ []; sealed = key 1 1 ∷ []; put = 1; taken = 0; generation = 2 }) (ok [] fresh43 [] .said) ≡ record { runs = []; sealed = []; put = 1; taken = 1; generation = 1 }
+pub freshened : notedFresh (record { runs = (key 1 1 ∷ []) ∷ []; sealed = key 1 1 ∷ []; sizes = record { key = key 1 1; bytes = 9 } ∷ []; put = 1; taken = 0; generation = 2 }) (ok [] fresh43 [] .said) ≡ record { runs = []; sealed = []; sizes = []; put = 1; taken = 1; generation = 1 }
 freshened = refl

@@ -10,7 +10,7 @@ use lib.ListN.{getD}
 use Rattle.rules.specs.declared.Key.{Key}
 use Rattle.rules.specs.declared.Found.{Found}
 use Rattle.rules.specs.declared.Found.the-variants as lookup
-use Rattle.rules.specs.Tables.{frameWidth, frameAt, headerAt, cell, isLive, found, State}
+use Rattle.rules.specs.Tables.{sized, frameWidth, frameAt, headerAt, cell, isLive, found, State}
 use Rattle.rules.specs.Refusals.{Outcome}
 use Rattle.rules.specs.Calls.{Call, getElement, newRun, union, AtDoor}
 use Rattle.rules.specs.History.{History, othersOf, nothing}
@@ -104,7 +104,7 @@ pub mark-unsealed : Agrees (marked 1) alone → ⊥
 unfolding cell isLive found
 mark-unsealed A = let z : _≡_ {A = ℕ} 1 0 = A .marks (key 1 1) refl in omega arith
 
-pub sealed-unmarked : Agrees (marked 0) (record { runs = alone .runs; sealed = key 1 1 ∷ []; put = 1; taken = 0; generation = 1 }) → ⊥
+pub sealed-unmarked : Agrees (marked 0) (record { runs = alone .runs; sealed = key 1 1 ∷ []; sizes = []; put = 1; taken = 0; generation = 1 }) → ⊥
 unfolding cell isLive found
 sealed-unmarked A = let z : _≡_ {A = ℕ} 0 1 = A .marks (key 1 1) refl in omega arith
 
@@ -112,7 +112,7 @@ sealed-unmarked A = let z : _≡_ {A = ℕ} 0 1 = A .marks (key 1 1) refl in ome
 abbrev crossed : State
 crossed = at (pool 2 2 0 2) (pool 2 2 0 2) 1 (e 1 10 2 1 1 ++ e 1 20 1 2 2) (s 1 200 0 ++ m 1 100 1)
 
-pub mark-crossed : Agrees crossed (record { runs = (key 1 1 ∷ []) ∷ (key 2 1 ∷ []) ∷ []; sealed = key 2 1 ∷ []; put = 2; taken = 0; generation = 1 }) → ⊥
+pub mark-crossed : Agrees crossed (record { runs = (key 1 1 ∷ []) ∷ (key 2 1 ∷ []) ∷ []; sealed = key 2 1 ∷ []; sizes = []; put = 2; taken = 0; generation = 1 }) → ⊥
 unfolding cell isLive found
 mark-crossed A = let z : _≡_ {A = ℕ} 1 0 = A .marks (key 1 1) refl in omega arith
 
@@ -220,8 +220,9 @@ pub fresh-refused : After one alone → After one alone
 unfolding rules
 fresh-refused a = fresh a 3 3
 
-pub call-accepted : After fresh43 nothing → AtDoor fresh43 [] (newRun 10 100) (ok (1 ∷ 1 ∷ []) one []) → After one alone
-call-accepted a d = call a [] (newRun 10 100) (ok (1 ∷ 1 ∷ []) one []) d
+pub call-accepted : After fresh43 nothing → AtDoor fresh43 [] (newRun 10 100 0) (ok (1 ∷ 1 ∷ []) one []) → After one alone
+unfolding sized
+call-accepted a d = call a [] (newRun 10 100 0) (ok (1 ∷ 1 ∷ []) one []) d
 
 pub call-refused : After one alone → AtDoor one [] (getElement (key 2 1)) (dead 1 one []) → After one alone
 call-refused a d = call a [] (getElement (key 2 1)) (dead 1 one []) d

@@ -7,7 +7,7 @@ use lib.ListN.{getD}
 use Rattle.rules.specs.Tables.{frameWidth, headerWidth, cell, isLive, State}
 use Rattle.rules.specs.Sound.{Frame, Header}
 use Rattle.rules.specs.Renaming.{SameRuns}
-use Rattle.rules.proofs.Cases.{pool, at, e, s, m, zeros}
+use Rattle.rules.proofs.Cases.{pool, at, e, ez, s, m, mz, zeros}
 
 -- two runs: the ring 1, 3, 2, and the frame 4 alone
 abbrev runs : (first second third fourth : List ℕ) → (one two : List ℕ) → State
@@ -85,3 +85,11 @@ other-value S = let z : _≡_ {A = ℕ} 201 200 = S .value 2 tt in omega arith
 pub other-mark : SameRuns base (runs (e 1 10 1 2 3) (e 1 11 1 3 1) (e 1 12 1 1 2) (e 1 20 2 4 4) (s 3 100 0) (m 1 200 1)) same same → ⊥
 unfolding cell isLive
 other-mark S = let z : _≡_ {A = ℕ} 1 0 = S .mark 2 tt in omega arith
+
+pub other-size : SameRuns base (runs (e 1 10 1 2 3) (ez 1 11 1 3 1 5) (e 1 12 1 1 2) (e 1 20 2 4 4) (s 3 100 0) (s 1 200 0)) same same → ⊥
+unfolding cell isLive
+other-size S = let z : _≡_ {A = ℕ} 5 0 = S .size 2 tt in omega arith
+
+pub other-total : SameRuns base (runs (e 1 10 1 2 3) (e 1 11 1 3 1) (e 1 12 1 1 2) (e 1 20 2 4 4) (s 3 100 0) (mz 1 200 0 5)) same same → ⊥
+unfolding cell isLive
+other-total S = let z : _≡_ {A = ℕ} 5 0 = S .total 2 tt in omega arith

@@ -9,8 +9,9 @@ use lib.ListN.{getD, replicate}
 use Rattle.rules.specs.declared.Key.{Key}
 use Rattle.rules.specs.declared.Found.{Found}
 use Rattle.rules.specs.declared.Found.the-variants as lookup
-use Rattle.rules.specs.Tables.{frameWidth, headerWidth, State}
+use Rattle.rules.specs.Tables.{sized, frameWidth, headerWidth, State}
 use Rattle.rules.specs.Calls.{newRun, remove, seal, compress, compressWith, AtDoor}
+use Rattle.rules.specs.Notation.{flat}
 use Rattle.rules.specs.History.{History, othersOf, runsBut, removedRuns, sorted, begunAt, ordered, renamed, movedDown}
 use Rattle.rules.specs.Demand.{After, In}
 use Rattle.rules.specs.Renaming.{Compresses, canonical, kept}
@@ -53,7 +54,7 @@ abbrev one1 : State
 one1 = at (one .head .elems) (one .head .shared) 1 (one .elems) (m 1 100 1 ++ zeros headerWidth 2)
 
 abbrev sealedHistory : (runs : List (List Key)) → (sealed : List Key) → (put taken generation : ℕ) → History
-sealedHistory rs ks p t g = record { runs = rs; sealed = ks; put = p; taken = t; generation = g }
+sealedHistory rs ks p t g = record { runs = rs; sealed = ks; sizes = map (λ k. record { key = k; bytes = 0 }) (flat rs); put = p; taken = t; generation = g }
 
 abbrev alone1 : History
 alone1 = sealedHistory ((key 1 1 ∷ []) ∷ []) (key 1 1 ∷ []) 1 0 1
@@ -103,7 +104,7 @@ says-so a lent d C = other-count (C three ring a lent (key 2 1) (ok (3 ∷ 2 ∷
 no-removal : {k : Key} → Compresses (remove k) → ⊥
 no-removal = elim [ ]
 
-no-new-run : {payload value : ℕ} → Compresses (newRun payload value) → ⊥
+no-new-run : {payload value size : ℕ} → Compresses (newRun payload value size) → ⊥
 no-new-run = elim [ ]
 
 pub none-yet : Later one1 alone1 (key 1 1 ∷ [])
@@ -127,8 +128,9 @@ taken-out l d = call l [] (remove (key 1 1)) (ok (10 ∷ 100 ∷ []) gone []) d 
 abbrev beside : State
 beside = at (pool 4 2 0 2) (pool 3 2 0 2) 1 (e 1 10 1 1 1 ++ e 1 20 2 2 2 ++ zeros frameWidth 2) (m 1 100 1 ++ s 1 200 0 ++ zeros headerWidth 1)
 
-pub other-run : Later one1 alone1 (key 1 1 ∷ []) → AtDoor one1 [] (newRun 20 200) (ok (2 ∷ 1 ∷ []) beside []) → Later beside (sealedHistory ((key 2 1 ∷ []) ∷ (key 1 1 ∷ []) ∷ []) (key 1 1 ∷ []) 2 0 1) (key 1 1 ∷ [])
-other-run l d = call l [] (newRun 20 200) (ok (2 ∷ 1 ∷ []) beside []) d (λ r. absurd (no-new-run r))
+pub other-run : Later one1 alone1 (key 1 1 ∷ []) → AtDoor one1 [] (newRun 20 200 0) (ok (2 ∷ 1 ∷ []) beside []) → Later beside (sealedHistory ((key 2 1 ∷ []) ∷ (key 1 1 ∷ []) ∷ []) (key 1 1 ∷ []) 2 0 1) (key 1 1 ∷ [])
+unfolding sized
+other-run l d = call l [] (newRun 20 200 0) (ok (2 ∷ 1 ∷ []) beside []) d (λ r. absurd (no-new-run r))
 
 pub refused-compress : Later one1 alone1 (key 1 1 ∷ []) → AtDoor one1 [] (compress true) (refused 7 one1 []) → Later one1 alone1 (key 1 1 ∷ [])
 refused-compress l d = call l [] (compress true) (refused 7 one1 []) d (λ r z. omega (arith, z))
@@ -146,13 +148,13 @@ behindRun = sealedHistory ((key 2 1 ∷ []) ∷ []) (key 2 1 ∷ []) 2 1 2
 abbrev frontRun : (generation : ℕ) → History
 frontRun g = sealedHistory ((key 1 g ∷ []) ∷ []) (key 1 g ∷ []) 2 1 g
 
-pub compressed : Later behind behindRun (key 2 1 ∷ []) → AtDoor behind (replicate 20 0) (compress false) (ok [] (front 3) (replicate 20 0)) → Later (front 3) (frontRun 3) (key 1 3 ∷ [])
+pub compressed : Later behind behindRun (key 2 1 ∷ []) → AtDoor behind (replicate 24 0) (compress false) (ok [] (front 3) (replicate 24 0)) → Later (front 3) (frontRun 3) (key 1 3 ∷ [])
 unfolding rules sorted begunAt ordered renamed
-compressed l d = compression l (replicate 20 0) (compress false) (canonical false) (ok [] (front 3) (replicate 20 0)) d refl
+compressed l d = compression l (replicate 24 0) (compress false) (canonical false) (ok [] (front 3) (replicate 24 0)) d refl
 
-pub reset : Later behind behindRun (key 2 1 ∷ []) → AtDoor behind (replicate 20 0) (compress true) (ok [] (front 1) (replicate 20 0)) → Later (front 1) (frontRun 1) (key 1 1 ∷ [])
+pub reset : Later behind behindRun (key 2 1 ∷ []) → AtDoor behind (replicate 24 0) (compress true) (ok [] (front 1) (replicate 24 0)) → Later (front 1) (frontRun 1) (key 1 1 ∷ [])
 unfolding rules sorted begunAt ordered renamed
-reset l d = compression l (replicate 20 0) (compress true) (canonical true) (ok [] (front 1) (replicate 20 0)) d refl
+reset l d = compression l (replicate 24 0) (compress true) (canonical true) (ok [] (front 1) (replicate 24 0)) d refl
 
 -- and so does the one that keeps the slot order
 pub moved-down : Later behind behindRun (key 2 1 ∷ []) → AtDoor behind (replicate 4 0) (compressWith false) (ok (1 ∷ []) (front 3) (2 ∷ 1 ∷ 1 ∷ 3 ∷ [])) → Later (front 3) (frontRun 3) (key 1 3 ∷ [])

@@ -39,12 +39,12 @@ past = at (pool 3 3 0 2) (pool 3 3 0 2) 2 (e 0 0 0 0 0 ++ e 1 20 2 2 2 ++ e 2 40
 abbrev table : List Case
 table =
     -- chained, the slot is given
-    step chained [] (insert (key 2 1) 40) gives ok (1 ∷ 2 ∷ []) inserted [] ∷
-    step chained [] (newRun 40 400) gives ok (1 ∷ 2 ∷ []) begun [] ∷
+    step chained [] (insert (key 2 1) 40 0) gives ok (1 ∷ 2 ∷ []) inserted [] ∷
+    step chained [] (newRun 40 400 0) gives ok (1 ∷ 2 ∷ []) begun [] ∷
     -- what was complained of: the rules go by root and extent, so past the check such a state had room and refused, or took past its extents
-    step (saved 2 0 0) [] (insert (key 2 1) 40) gives refused 5 (saved 2 0 0) [] ∷
-    step (saved 2 0 0) [] (newRun 40 400) gives refused 6 (saved 2 0 0) [] ∷
-    step (saved 3 0 0) [] (newRun 40 400) gives ok (3 ∷ 2 ∷ []) past [] ∷
+    step (saved 2 0 0) [] (insert (key 2 1) 40 0) gives refused 5 (saved 2 0 0) [] ∷
+    step (saved 2 0 0) [] (newRun 40 400 0) gives refused 6 (saved 2 0 0) [] ∷
+    step (saved 3 0 0) [] (newRun 40 400 0) gives ok (3 ∷ 2 ∷ []) past [] ∷
     []
 
 pub restored : map did table ≡ map says table
@@ -92,7 +92,8 @@ zero-frame (suc zero) l = refl
 zero-frame (suc (suc zero)) l = refl
 zero-frame (suc (suc (suc zero))) l = refl
 zero-frame (suc (suc (suc (suc zero)))) l = refl
-zero-frame (suc (suc (suc (suc (suc f))))) l = absurd (omega arith)
+zero-frame (suc (suc (suc (suc (suc zero))))) l = refl
+zero-frame (suc (suc (suc (suc (suc (suc f)))))) l = absurd (omega arith)
 
 zero-header : (f : ℕ) → f < headerWidth → fieldOf (sharedSide chained) f 1 ≡ 0
 unfolding cell
@@ -100,7 +101,8 @@ zero-header zero l = refl
 zero-header (suc zero) l = refl
 zero-header (suc (suc zero)) l = refl
 zero-header (suc (suc (suc zero))) l = refl
-zero-header (suc (suc (suc (suc f)))) l = absurd (omega arith)
+zero-header (suc (suc (suc (suc zero)))) l = refl
+zero-header (suc (suc (suc (suc (suc f))))) l = absurd (omega arith)
 
 -- a chain of the slot 1 alone
 chain-of-1 : (t : Side) → t .pool .root ≡ 1 → T (isFree t 1) → fieldOf t (t .link) 1 ≡ 0 → ((P : ℕ → Type 0) → P 1 → (n : ℕ) → T (isFree t n) → P n) → Chain t
@@ -137,6 +139,8 @@ chained-sound = record {
   oneClass = λ x y f g _. frame-2 (λ x. classOf (chained .elems) x ≡ classOf (chained .elems) y) (frame-2 (λ y. 2 ≡ classOf (chained .elems) y) refl y g) x f;
   ownClass = λ x y f g _. frame-2 (λ x. OneRing chained x y) (frame-2 (OneRing chained 2) (0, refl) y g) x f;
   marks = header-2 _ (lit≤ tt);
+  sizes = frame-2 _ (lit≤ tt);
+  totals = frame-2 _ refl;
   rings = header-2 (λ c. (n : ℕ) × Frame chained n × (classOf (chained .elems) n ≡ c) × RingSize chained n (countOf (chained .shared) c)) (
     2,
     tt,
@@ -147,15 +151,15 @@ chained-sound = record {
 
 -- ---- at the host's door
 
-pub insert-refused : AtDoor (saved 2 0 1) [] (insert (key 2 1) 40) (refused 2 (saved 2 0 1) [])
+pub insert-refused : AtDoor (saved 2 0 1) [] (insert (key 2 1) 40 0) (refused 2 (saved 2 0 1) [])
 unfolding rules
 insert-refused = record { sound = false; decided = λ _. unsound; same = refl }
 
-pub newRun-refused : AtDoor (saved 2 1 0) [] (newRun 40 400) (refused 2 (saved 2 1 0) [])
+pub newRun-refused : AtDoor (saved 2 1 0) [] (newRun 40 400 0) (refused 2 (saved 2 1 0) [])
 unfolding rules
 newRun-refused = record { sound = false; decided = λ _. shared-unsound; same = refl }
 
-pub insert-given : AtDoor chained [] (insert (key 2 1) 40) (ok (1 ∷ 2 ∷ []) inserted [])
+pub insert-given : AtDoor chained [] (insert (key 2 1) 40 0) (ok (1 ∷ 2 ∷ []) inserted [])
 unfolding rules
 insert-given = record { sound = true; decided = λ _. chained-sound; same = refl }
 

@@ -42,11 +42,11 @@ module _ (st : State) (lent : List ℕ) (c : Call) (o : Outcome) (d : AtDoor st 
       ((λ n. f .0 (e .0 n .0 .1)), λ n. e .1 ((a, f .1 n), t))
 
 module _ (st : State) (lent : List ℕ) (o : Outcome) where
-  pub newRun-5 : (payload value : ℕ) → AtDoor st lent (newRun payload value) o → Turn st lent (newRun payload value) NoElement → (o .said .number ≡ 5) ↔ NoneFree (elemSide st)
-  newRun-5 payload value d = no-element-exactly st lent (newRun payload value) o d tt
+  pub newRun-5 : (payload value size : ℕ) → AtDoor st lent (newRun payload value size) o → Turn st lent (newRun payload value size) NoElement → (o .said .number ≡ 5) ↔ NoneFree (elemSide st)
+  newRun-5 payload value size d = no-element-exactly st lent (newRun payload value size) o d tt
 
-  pub newRun-6 : (payload value : ℕ) → AtDoor st lent (newRun payload value) o → Turn st lent (newRun payload value) NoShared → (o .said .number ≡ 6) ↔ NoneFree (sharedSide st)
-  newRun-6 payload value d = no-shared-exactly st lent (newRun payload value) o d tt
+  pub newRun-6 : (payload value size : ℕ) → AtDoor st lent (newRun payload value size) o → Turn st lent (newRun payload value size) NoShared → (o .said .number ≡ 6) ↔ NoneFree (sharedSide st)
+  newRun-6 payload value size d = no-shared-exactly st lent (newRun payload value size) o d tt
 
-  pub insert-5 : (k : Key) (payload : ℕ) → AtDoor st lent (insert k payload) o → Turn st lent (insert k payload) NoElement → (o .said .number ≡ 5) ↔ NoneFree (elemSide st)
-  insert-5 k payload d = no-element-exactly st lent (insert k payload) o d tt
+  pub insert-5 : (k : Key) (payload size : ℕ) → AtDoor st lent (insert k payload size) o → Turn st lent (insert k payload size) NoElement → (o .said .number ≡ 5) ↔ NoneFree (elemSide st)
+  insert-5 k payload size d = no-element-exactly st lent (insert k payload size) o d tt

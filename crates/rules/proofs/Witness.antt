@@ -25,10 +25,10 @@ ready-fresh = kept-fresh fresh43 4 3 refl
 abbrev runs : List (List Call)
 runs =
     -- P1 and P2; P4 and P7; P11
-    (newRun 10 100 ∷ insert (key 1 1) 11 ∷ insert (key 1 1) 12 ∷ newRun 20 200 ∷ []) ∷
-    (newRun 10 100 ∷ insert (key 1 1) 11 ∷ insert (key 1 1) 12 ∷ newRun 20 200 ∷ union (key 4 1) (key 1 1) ∷ remove (key 4 1) ∷ []) ∷
-    (newRun 10 100 ∷ newRun 20 200 ∷ remove (key 1 1) ∷ []) ∷
-    (newRun 10 100 ∷ newRun 20 200 ∷ remove (key 1 1) ∷ insert (key 2 1) 21 ∷ []) ∷
+    (newRun 10 100 0 ∷ insert (key 1 1) 11 0 ∷ insert (key 1 1) 12 0 ∷ newRun 20 200 0 ∷ []) ∷
+    (newRun 10 100 0 ∷ insert (key 1 1) 11 0 ∷ insert (key 1 1) 12 0 ∷ newRun 20 200 0 ∷ union (key 4 1) (key 1 1) ∷ remove (key 4 1) ∷ []) ∷
+    (newRun 10 100 0 ∷ newRun 20 200 0 ∷ remove (key 1 1) ∷ []) ∷
+    (newRun 10 100 0 ∷ newRun 20 200 0 ∷ remove (key 1 1) ∷ insert (key 2 1) 21 0 ∷ []) ∷
     []
 
 states : map (after fresh43) runs ≡ four ∷ goesOn ∷ single ∷ reused ∷ []

@@ -5,6 +5,7 @@ pub mod Lists
 pub mod Pools
 pub mod Count
 pub mod Marked
+pub mod Totals
 pub mod Working
 pub mod Links
 pub mod Tests
@@ -21,6 +22,7 @@ pub mod Classes
 pub mod Headers
 pub mod Steady
 pub mod Seals
+pub mod Givens
 pub mod Good
 pub mod Refused
 pub mod Rulings

@@ -4,7 +4,7 @@ use mathlib.Core.Path.{_≡_}
 use mathlib.Core.Bool.{Bool, true, false}
 use mathlib.Core.List.{List, []}
 use Rattle.rules.specs.declared.Key.{Key}
-use Rattle.rules.specs.Tables.{State}
+use Rattle.rules.specs.Tables.{State, sized}
 use Rattle.rules.specs.Sound.{Sound}
 use Rattle.rules.specs.Refusals.{Ruling, Outcome, outcome, shaped, door}
 use Rattle.rules.specs.Reads
@@ -15,14 +15,15 @@ use Rattle.rules.specs.Seals
 use Rattle.rules.specs.Exchange
 use Rattle.rules.specs.Compress
 
--- Rules 1 and 4 to 14, and Tickets 1, 3 and 5
+-- Rules 1 and 4 to 14, and Tickets 1, 3, 5 and 6
 pub data Call : Type 0 where
-  lenSurject getElement getShared lookup remove removeShared list drain seal : Key → Call
+  lenSurject getElement getShared getSize getTotal lookup remove removeShared list drain seal : Key → Call
   inSameSurject union : (j k : Key) → Call
-  setElement insert : Key → (payload : ℕ) → Call
+  setElement : Key → (payload : ℕ) → Call
+  insert : Key → (payload size : ℕ) → Call
   setShared : Key → (value : ℕ) → Call
   exchange : List Key → (values : List ℕ) → Call
-  newRun : (payload value : ℕ) → Call
+  newRun : (payload value size : ℕ) → Call
   compress compressWith : (reset : Bool) → Call
   check drainAll clear : Call
 
@@ -31,12 +32,14 @@ ruling st lent (lenSurject k) = Reads.lenSurject st k
 ruling st lent (inSameSurject j k) = Reads.inSameSurject st j k
 ruling st lent (getElement k) = Reads.getElement st k
 ruling st lent (getShared k) = Reads.getShared st k
+ruling st lent (getSize k) = Reads.getSize st k
+ruling st lent (getTotal k) = Reads.getTotal st k
 ruling st lent (lookup k) = Reads.lookup st k
 ruling st lent (setElement k payload) = Reads.setElement st k payload
 ruling st lent (setShared k value) = Reads.setShared st k value
 ruling st lent check = Reads.check st
-ruling st lent (newRun payload value) = Runs.newRun st payload value
-ruling st lent (insert k payload) = Runs.insert st k payload
+ruling st lent (newRun payload value size) = Runs.newRun st payload value (sized size)
+ruling st lent (insert k payload size) = Runs.insert st k payload (sized size)
 ruling st lent (union j k) = Runs.union st j k
 ruling st lent (remove k) = Runs.remove st k
 ruling st lent (removeShared k) = Drains.removeShared st k

@@ -18,7 +18,7 @@ use Rattle.rules.specs.Refusals.{shaped}
 use Rattle.rules.specs.Drains.{keyWidth, recordWidth}
 use Rattle.rules.specs.Seals.{sealWidth}
 use Rattle.rules.specs.Compress.{pairWidth}
-use Rattle.rules.specs.Calls.{Call, lenSurject, inSameSurject, getElement, getShared, lookup, setElement, setShared, check, newRun, insert, union, remove, removeShared, list, drain, seal, drainAll, clear, exchange, compress, compressWith}
+use Rattle.rules.specs.Calls.{Call, lenSurject, inSameSurject, getElement, getShared, getSize, getTotal, lookup, setElement, setShared, check, newRun, insert, union, remove, removeShared, list, drain, seal, drainAll, clear, exchange, compress, compressWith}
 
 -- one of these, two of these, none of these
 abbrev pub Some : {A : Type 0} → (A → Type 0) → List A → Type 0
@@ -70,12 +70,14 @@ asks st (lenSurject k) = onKeys (k ∷ [])
 asks st (inSameSurject j k) = onKeys (j ∷ k ∷ [])
 asks st (getElement k) = onKeys (k ∷ [])
 asks st (getShared k) = onKeys (k ∷ [])
+asks st (getSize k) = onKeys (k ∷ [])
+asks st (getTotal k) = onKeys (k ∷ [])
 asks st (lookup k) = onKeys (k ∷ [])
 asks st (setElement k payload) = onKeys (k ∷ [])
 asks st (setShared k value) = onKeys (k ∷ [])
 asks st check = onKeys []
-asks st (newRun payload value) = takingSlots [] true
-asks st (insert k payload) = takingSlots (k ∷ []) false
+asks st (newRun payload value size) = takingSlots [] true
+asks st (insert k payload size) = takingSlots (k ∷ []) false
 asks st (union j k) = joining (j ∷ k ∷ [])
 asks st (remove k) = onKeys (k ∷ [])
 asks st (removeShared k) = onKeys (k ∷ [])

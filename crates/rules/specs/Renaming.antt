@@ -1,9 +1,9 @@
--- Ticket 3: what both compressions keep, said once: runs, rings, counts and payloads are the same up to a renaming, and the marks travel along.
+-- Ticket 3: what both compressions keep, said once: runs, rings, counts and payloads are the same up to a renaming, and marks, sizes and totals travel along.
 use Prim.Native.Nat.{ℕ}
 use mathlib.Core.Path.{_≡_}
 use mathlib.Core.Bool.{Bool}
 use mathlib.Core.List.{List, map}
-use Rattle.rules.specs.Tables.{payloadOf, classOf, previousOf, nextOf, countOf, valueOf, markOf, State, elemSide, sharedSide}
+use Rattle.rules.specs.Tables.{payloadOf, classOf, previousOf, nextOf, bytesOf, countOf, valueOf, markOf, totalOf, State, elemSide, sharedSide}
 use Rattle.rules.specs.Sound.{Frame, Header}
 use Rattle.rules.specs.Drains.{ring}
 use Rattle.rules.specs.Compress.{canonicalFrames, canonicalClasses, liveSlots, placeOf}
@@ -26,9 +26,11 @@ pub record SameRuns (st st′ : State) (new newClass : ℕ → ℕ) : Type 0 whe
   pub previous : (s : ℕ) → Frame st s → previousOf (st′ .elems) (new s) ≡ new (previousOf (st .elems) s)
   -- and what frame and header hold
   pub payload : (s : ℕ) → Frame st s → payloadOf (st′ .elems) (new s) ≡ payloadOf (st .elems) s
+  pub size : (s : ℕ) → Frame st s → bytesOf (st′ .elems) (new s) ≡ bytesOf (st .elems) s
   pub count : (c : ℕ) → Header st c → countOf (st′ .shared) (newClass c) ≡ countOf (st .shared) c
   pub value : (c : ℕ) → Header st c → valueOf (st′ .shared) (newClass c) ≡ valueOf (st .shared) c
   pub mark : (c : ℕ) → Header st c → markOf (st′ .shared) (newClass c) ≡ markOf (st .shared) c
+  pub total : (c : ℕ) → Header st c → totalOf (st′ .shared) (newClass c) ≡ totalOf (st .shared) c
 
 -- the calls that rename every frame; and the orders by which they do
 pub data Compresses : Call → Type 0 where

@@ -21,6 +21,17 @@ mostSlots = 65536
 abbrev pub lastGeneration : ℕ
 lastGeneration = 4294967295
 
+-- Ticket 6: the greatest size of a frame, in bytes; and what is kept of a size that is given, which in C is never past it
+abbrev pub mostBytes : ℕ
+mostBytes = 4294967295
+
+-- a total stays below this
+abbrev pub totalBound : ℕ
+totalBound = 281474976710656
+
+unfoldable pub sized : ℕ → ℕ
+sized z = if z ≤? mostBytes then z else mostBytes
+
 -- Tables: a table is a list of numbers, as many to a slot as its width says. Slots are numbered from 1; slot 0, which means none, holds nothing.
 unfoldable pub cell : (width : ℕ) → List ℕ → (field slot : ℕ) → ℕ
 cell w t f zero = 0
@@ -35,12 +46,12 @@ unfoldable pub row : (width : ℕ) → List ℕ → (slot : ℕ) → (fields : L
 row w t zero vs = t
 row w t (suc s) vs = sets t (s * w) vs
 
--- Tables 1: an element slot's fields, in this order (docs/LAYOUT.md)
+-- Tables 1 and Ticket 6: an element slot's fields, in this order (docs/LAYOUT.md)
 abbrev pub frameWidth : ℕ
-frameWidth = 5
+frameWidth = 6
 
-abbrev pub frameAt : record { generation : ℕ; payload : ℕ; class : ℕ; previous : ℕ; next : ℕ }
-frameAt = record { generation = 0; payload = 1; class = 2; previous = 3; next = 4 }
+abbrev pub frameAt : record { generation : ℕ; payload : ℕ; class : ℕ; previous : ℕ; next : ℕ; size : ℕ }
+frameAt = record { generation = 0; payload = 1; class = 2; previous = 3; next = 4; size = 5 }
 
 abbrev pub generationOf : List ℕ → (slot : ℕ) → ℕ
 generationOf e = cell frameWidth e (frameAt .generation)
@@ -57,12 +68,15 @@ previousOf e = cell frameWidth e (frameAt .previous)
 abbrev pub nextOf : List ℕ → (slot : ℕ) → ℕ
 nextOf e = cell frameWidth e (frameAt .next)
 
--- Tables 2 and Ticket 1: a shared slot's fields, in this order (docs/LAYOUT.md)
-abbrev pub headerWidth : ℕ
-headerWidth = 4
+abbrev pub bytesOf : List ℕ → (slot : ℕ) → ℕ
+bytesOf e = cell frameWidth e (frameAt .size)
 
-abbrev pub headerAt : record { count : ℕ; value : ℕ; nextFree : ℕ; mark : ℕ }
-headerAt = record { count = 0; value = 1; nextFree = 2; mark = 3 }
+-- Tables 2 and Tickets 1 and 6: a shared slot's fields, in this order (docs/LAYOUT.md)
+abbrev pub headerWidth : ℕ
+headerWidth = 5
+
+abbrev pub headerAt : record { count : ℕ; value : ℕ; nextFree : ℕ; mark : ℕ; total : ℕ }
+headerAt = record { count = 0; value = 1; nextFree = 2; mark = 3; total = 4 }
 
 abbrev pub countOf : List ℕ → (class : ℕ) → ℕ
 countOf s = cell headerWidth s (headerAt .count)
@@ -75,6 +89,9 @@ nextFreeOf s = cell headerWidth s (headerAt .nextFree)
 
 abbrev pub markOf : List ℕ → (class : ℕ) → ℕ
 markOf s = cell headerWidth s (headerAt .mark)
+
+abbrev pub totalOf : List ℕ → (class : ℕ) → ℕ
+totalOf s = cell headerWidth s (headerAt .total)
 
 -- Tables 3: the head, with both tables
 pub record State : Type 0 where

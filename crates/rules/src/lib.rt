@@ -7,9 +7,9 @@ ghost use Rattle.rules.specs.Tables.{mostSlots, lastGeneration, withPool
 ghost use Rattle.rules.specs.Slots.{slotOf, isFull, freed, raised};
 
 // Numbers to an element slot and to a shared slot (docs/LAYOUT.md); in the rules, frameWidth and headerWidth.
-pub const FRAME: u64 = 5;
+pub const FRAME: u64 = 6;
 
-pub const HEADER: u64 = 4;
+pub const HEADER: u64 = 5;
 
 // Tables 1: the fields of an element slot; in the rules, frameAt.
 pub const GENERATION: u64 = 0;
@@ -22,6 +22,8 @@ pub const PREVIOUS: u64 = 3;
 
 pub const NEXT: u64 = 4;
 
+pub const SIZE: u64 = 5;
+
 // Tables 2: the fields of a shared slot; in the rules, headerAt.
 pub const COUNT: u64 = 0;
 
@@ -30,6 +32,11 @@ pub const VALUE: u64 = 1;
 pub const NEXT_FREE: u64 = 2;
 
 pub const MARK: u64 = 3;
+
+pub const TOTAL: u64 = 4;
+
+// Ticket 6: in the rules, mostBytes.
+pub const MOST_BYTES: u64 = 4294967295;
 
 // Tables 3: in the rules, lastGeneration.
 pub const LAST_GENERATION: u64 = 4294967295;

@@ -89,8 +89,8 @@ fn run(
 }
 
 fn main() {
-    let mut elems = [0u64; 2560];
-    let mut shared = [0u64; 2048];
+    let mut elems = [0u64; 3072];
+    let mut shared = [0u64; 2560];
     let mut keys = [0u64; 1024];
     let mut out = [0u8; 65536];
     let mut block = [0u8; 65536];

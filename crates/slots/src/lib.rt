@@ -13,6 +13,8 @@ use rules::NEXT;
 use rules::NEXT_FREE;
 use rules::PAYLOAD;
 use rules::PREVIOUS;
+use rules::SIZE;
+use rules::TOTAL;
 use rules::VALUE;
 ghost use mathlib.Core.Path.{_≡_};
 ghost use mathlib.Core.List.{List, [], _∷_};
@@ -20,7 +22,7 @@ ghost use Prim.Native.Nat.{ℕ, _+_, _*_, _≤_, _<_};
 ghost use lib.ListN.{length};
 ghost use Rattle.rules.specs.Tables.{frameWidth, headerWidth, cell, put, row, stateOf, withPools, elemSide, sharedSide, previousOf, nextOf, classOf, isSealed};
 ghost use Rattle.rules.specs.Slots.{taken, freeElement, freeShared};
-ghost use Rattle.rules.specs.Runs.{frame, linked, exchanged, rewritten};
+ghost use Rattle.rules.specs.Runs.{frame, counted, linked, exchanged, rewritten};
 ghost use Rattle.slots.specs.Asked.{Within, Cell, Takes, Next, Between, Along, OnLive};
 ghost use Rattle.slots.specs.Answered.{Looks, spliced};
 
@@ -48,26 +50,38 @@ pub fn write_frame(
     class: u64,
     previous: u64,
     next: u64,
+    size: u64,
 )
     requires { ⌜ Within frameWidth (now e) slot ⌝ }
-    ensures { λ r. ⌜ now (e .exit) ≡ row frameWidth (now (e .entry)) slot (frame generation payload class previous next) ⌝ }
+    ensures { λ r. ⌜ now (e .exit) ≡ row frameWidth (now (e .entry)) slot (frame generation payload class previous next size) ⌝ }
 {
     put(e, FRAME, slot, GENERATION, generation);
     put(e, FRAME, slot, PAYLOAD, payload);
     put(e, FRAME, slot, CLASS, class);
     put(e, FRAME, slot, PREVIOUS, previous);
     put(e, FRAME, slot, NEXT, next);
+    put(e, FRAME, slot, SIZE, size);
 }
 
 // All fields of a shared slot, whose run is not sealed.
-pub fn write_header(s: &mut [u64], slot: u64, count: u64, value: u64, next: u64)
+pub fn write_header(s: &mut [u64], slot: u64, count: u64, value: u64, next: u64, total: u64)
     requires { ⌜ Within headerWidth (now s) slot ⌝ }
-    ensures { λ r. ⌜ now (s .exit) ≡ row headerWidth (now (s .entry)) slot (count ∷ value ∷ next ∷ 0 ∷ []) ⌝ }
+    ensures { λ r. ⌜ now (s .exit) ≡ row headerWidth (now (s .entry)) slot (count ∷ value ∷ next ∷ 0 ∷ total ∷ []) ⌝ }
 {
     put(s, HEADER, slot, COUNT, count);
     put(s, HEADER, slot, VALUE, value);
     put(s, HEADER, slot, NEXT_FREE, next);
     put(s, HEADER, slot, MARK, 0);
+    put(s, HEADER, slot, TOTAL, total);
+}
+
+// The count of a class, and Ticket 6's total.
+pub fn recount(s: &mut [u64], class: u64, count: u64, total: u64)
+    requires { ⌜ Within headerWidth (now s) class ⌝ }
+    ensures { λ r. ⌜ now (s .exit) ≡ counted (now (s .entry)) class count total ⌝ }
+{
+    put(s, HEADER, class, COUNT, count);
+    put(s, HEADER, class, TOTAL, total);
 }
 
 // Rules 3, taking an element slot.
@@ -101,7 +115,7 @@ pub fn free_frame(head: Head, elems: &mut [u64], slot: u64) -> Head
     requires { ⌜ Within frameWidth (now elems) slot × (1 ≤ head .elems .live) ⌝ }
     ensures { λ r. ⌜ ((s : List ℕ) → stateOf r (now (elems .exit)) s ≡ freeElement (stateOf head (now (elems .entry)) s) slot) ⌝ }
 {
-    write_frame(elems, slot, 0, 0, 0, 0, head.elems.root);
+    write_frame(elems, slot, 0, 0, 0, 0, head.elems.root, 0);
     head.push_element(slot)
 }
 
@@ -110,7 +124,7 @@ pub fn free_header(head: Head, shared: &mut [u64], slot: u64) -> Head
     requires { ⌜ Within headerWidth (now shared) slot × (1 ≤ head .shared .live) ⌝ }
     ensures { λ r. ⌜ ((e : List ℕ) → stateOf r e (now (shared .exit)) ≡ freeShared (stateOf head e (now (shared .entry))) slot) ⌝ }
 {
-    write_header(shared, slot, 0, 0, head.shared.root);
+    write_header(shared, slot, 0, 0, head.shared.root, 0);
     head.push_shared(slot)
 }
 
@@ -156,13 +170,13 @@ pub fn link(e: &mut [u64], a: u64, b: u64)
 }
 
 // Rules 5: the slot `y` is written as a frame immediately after `x`, in its class, which is the answer.
-pub fn splice(e: &mut [u64], x: u64, y: u64, generation: u64, payload: u64) -> u64
+pub fn splice(e: &mut [u64], x: u64, y: u64, generation: u64, payload: u64, size: u64) -> u64
     requires { ⌜ Next (now e) x × Within frameWidth (now e) y ⌝ }
-    ensures { λ r. ⌜ (r ≡ classOf (now (e .entry)) x) × (now (e .exit) ≡ spliced (now (e .entry)) x y generation payload) ⌝ }
+    ensures { λ r. ⌜ (r ≡ classOf (now (e .entry)) x) × (now (e .exit) ≡ spliced (now (e .entry)) x y generation payload size) ⌝ }
 {
     let class = get(e, FRAME, CLASS, x);
     let next = get(e, FRAME, NEXT, x);
-    write_frame(e, y, generation, payload, class, x, next);
+    write_frame(e, y, generation, payload, class, x, next, size);
     put(e, FRAME, x, NEXT, y);
     put(e, FRAME, next, PREVIOUS, y);
     class

@@ -8,7 +8,7 @@ use native.Mathlib.Omega.{arith}
 use native.Mathlib.Decide.{ℕ-discrete}
 use lib.ListN.{length, length-append}
 use Rattle.marks.specs.Marks.{marked, Added}
-use Rattle.rules.specs.Tables.{generationOf, classOf, nextOf, countOf, State}
+use Rattle.rules.specs.Tables.{generationOf, classOf, nextOf, countOf, totalOf, State}
 use Rattle.rules.proofs.laws.Lists.{All, In, Out, NoDup, all-at, all-of, in-parts, in-left, in-right, nodup-append}
 use Rattle.rules.proofs.laws.Count.{lives-le, fewer}
 use Rattle.rules.proofs.laws.Rounds.{Within, Fit, Round, went, went-once}
@@ -53,12 +53,12 @@ record Ran (st : State) (c x : ℕ) : Type 0 where
   class : run .class ≡ c
   start : run .start ≡ x
 
-ran : (st : State) (c x k : ℕ) → Within (st .head .shared .extent) c → k ≡ countOf (st .shared) c → Round (st .elems) (st .head .elems .extent) c x k x → Ran st c x
+ran : (st : State) (c x k : ℕ) → Within (st .head .shared .extent) c → k ≡ countOf (st .shared) c → Round (st .elems) (st .head .elems .extent) c x k (totalOf (st .shared) c) x → Ran st c x
 ran st c x k l q r =
-    let w = went (st .elems) (st .head .elems .extent) c x k x r in
+    let w = went (st .elems) (st .head .elems .extent) c x k (totalOf (st .shared) c) x r in
     record {
       run = record { class = c; start = x; rest = w .rest };
-      ok = record { header = l; sized = w .sized ∙ q; round = w .walk; once = went-once (st .elems) (st .head .elems .extent) c x k w; fits = w .fits };
+      ok = record { header = l; sized = w .sized ∙ q; round = w .walk; once = went-once (st .elems) (st .head .elems .extent) c x k (totalOf (st .shared) c) w; bytes = w .bytes; fits = w .fits };
       class = refl;
       start = refl;
     }
@@ -165,7 +165,7 @@ module _ (st : State) where
           passed x lo hi l (yes q) = subst (λ (v : ℕ). In v (classes (z .runs))) (sym (ap (classOf (st .elems)) q ∙ mine)) here
           passed x lo hi l (no q) = z .passed x lo (omega arith) l
 
-      pub take-ring : (k : ℕ) (seen′ : List ℕ) → c ≤ st .head .shared .extent → marked seen (c - 1) ≡ false → k ≡ countOf (st .shared) c → Round (st .elems) (st .head .elems .extent) c (i + 1) k (i + 1) → Added seen (c - 1) seen′ → Scan st (i + 1) (met + k) (rings + 1) seen′
+      pub take-ring : (k : ℕ) (seen′ : List ℕ) → c ≤ st .head .shared .extent → marked seen (c - 1) ≡ false → k ≡ countOf (st .shared) c → Round (st .elems) (st .head .elems .extent) c (i + 1) k (totalOf (st .shared) c) (i + 1) → Added seen (c - 1) seen′ → Scan st (i + 1) (met + k) (rings + 1) seen′
       take-ring k seen′ within off size r add =
           let t = ran st c (i + 1) k (record { low = pos; high = within }) size r in
           let head : t .run .class ≡ c = t .class in

@@ -8,7 +8,7 @@ use native.Mathlib.Nat.{mul-le-mul-right}
 use native.Mathlib.Omega.{arith}
 use lib.ListN.{length}
 use Rattle.marks.specs.Marks.{marked, Added}
-use Rattle.rules.specs.Tables.{mostSlots, generationOf, classOf, countOf, State}
+use Rattle.rules.specs.Tables.{mostSlots, generationOf, classOf, countOf, totalOf, State}
 use Rattle.rules.specs.Sound.{Sound}
 use Rattle.rules.specs.Refusals.{shaped}
 use Rattle.rules.proofs.laws.Working.{view, Working}
@@ -34,14 +34,14 @@ module _ (st : State) (h : shaped st ≡ true) (x : ℕ) where
     pub wrong-class : (Within (st .head .shared .extent) c → ⊥) → Sound st → ⊥
     wrong-class n S = n (rw mine (must-class st (work st h S) x live))
 
-    pub wrong-ring : (k : ℕ) → k ≡ countOf (st .shared) c → (Round (st .elems) (st .head .elems .extent) c x k x → ⊥) → Sound st → ⊥
-    wrong-ring k e n S = n (rw e (round-of st (work st h S) c x (record { live = live; mine = sym mine })))
+    pub wrong-ring : (k t : ℕ) → k ≡ countOf (st .shared) c → t ≡ totalOf (st .shared) c → (Round (st .elems) (st .head .elems .extent) c x k t x → ⊥) → Sound st → ⊥
+    wrong-ring k t e f n S = n (rw (e, f) (round-of st (work st h S) c x (record { live = live; mine = sym mine })))
 
     pub frame-at : Within (st .head .shared .extent) c → FrameAt st x
     frame-at w = record { live = live; class = rw (← mine) w }
 
-    pub first-at : (k : ℕ) (seen after : List ℕ) → Within (st .head .shared .extent) c → marked seen (c - 1) ≡ false → k ≡ countOf (st .shared) c → Round (st .elems) (st .head .elems .extent) c x k x → Added seen (c - 1) after → FirstAt st seen x k after
-    first-at k seen after w u e r a = record { frame = frame-at w; unseen = rw (← mine) u; count = rw (← mine) e; round = rw (← mine) r; added = rw (← mine) a }
+    pub first-at : (k t : ℕ) (seen after : List ℕ) → Within (st .head .shared .extent) c → marked seen (c - 1) ≡ false → k ≡ countOf (st .shared) c → t ≡ totalOf (st .shared) c → Round (st .elems) (st .head .elems .extent) c x k t x → Added seen (c - 1) after → FirstAt st seen x k after
+    first-at k t seen after w u e f r a = record { frame = frame-at w; unseen = rw (← mine) u; count = rw (← mine) e; round = rw (← mine) (rw f at r); added = rw (← mine) a }
 
 -- ---- what the scan has then
 

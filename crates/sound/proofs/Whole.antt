@@ -1,17 +1,19 @@
 -- What was found, put together: a sound state; and of a sound state, that the scan finds all.
 use mathlib.Core.Path.{_≡_, refl, sym, ap, subst, _∙_}
 use mathlib.Core.Logic.{_≢_, _⊎_, inl, inr}
-use mathlib.Core.List.{List, [], _∷_}
+use mathlib.Core.List.{List, [], _∷_, map}
 use Prim.Native.Nat.{ℕ, zero, suc, _+_, _-_, _*_, _≤_, _<_}
 use native.Mathlib.Omega.{arith}
 use native.Mathlib.Decide.{ℕ-discrete, decLt}
 use lib.ListN.{length}
-use Rattle.rules.specs.Tables.{lastGeneration, frameWidth, headerWidth, frameAt, headerAt, cell, generationOf, payloadOf, classOf, previousOf, nextOf, countOf, valueOf, nextFreeOf, markOf, State}
+use Rattle.rules.specs.Tables.{lastGeneration, mostBytes, frameWidth, headerWidth, frameAt, headerAt, cell, generationOf, payloadOf, classOf, previousOf, nextOf, bytesOf, countOf, valueOf, nextFreeOf, markOf, totalOf, State}
 use Rattle.rules.proofs.laws.Columns.{cell-none}
 use Rattle.rules.proofs.laws.Lists.{All, In, Walk, all-map, all-at}
 use Rattle.rules.proofs.laws.Pools.{Pooled, lives, live-in}
 use Rattle.rules.proofs.laws.Count.{full, exact, lives-le}
-use Rattle.rules.proofs.laws.Working.{view, Working, Frame, Ring, turn}
+use Rattle.rules.proofs.laws.Working.{view, Working, Frame, Ring, turn, ring-over, total-none}
+use Rattle.rules.proofs.laws.Totals.{Sizes, whole, whole-none}
+use Rattle.rules.specs.Notation.{sum}
 use Rattle.rules.proofs.laws.Chains.{linked-of, counted, pooled-linked}
 use Rattle.rules.proofs.laws.Rounds.{Within, Fit, pred-in, walk-last}
 use Rattle.pools.specs.Pools.{PoolOk, HeaderOk, Headers}
@@ -126,7 +128,10 @@ module _ (st : State) (F : Found st) where
           go (inr m) = m
 
   -- the ring of a live class
-  class-run : (c : ℕ) → countOf (st .shared) c ≢ 0 → (x : ℕ) × Ring (generationOf (st .elems)) (classOf (st .elems)) (nextOf (st .elems)) c x (countOf (st .shared) c)
+  abbrev Ringed : ℕ → Type 0
+  Ringed c = (x : ℕ) × (r : Ring (generationOf (st .elems)) (classOf (st .elems)) (nextOf (st .elems)) c x (countOf (st .shared) c)) × (totalOf (st .shared) c ≡ sum (map (bytesOf (st .elems)) (x ∷ r .rest)))
+
+  class-run : (c : ℕ) → countOf (st .shared) c ≢ 0 → Ringed c
   class-run c l =
       let i = within headerWidth (st .shared) (st .head .shared .extent) (omega arith) past-s c l in
       let z = F .scanned .scan in
@@ -134,7 +139,7 @@ module _ (st : State) (F : Found st) where
       let t = of-class c (z .runs) m in
       go (t .0) (t .1) (t .2)
     where
-      go : (r : Run) → In r (F .scanned .scan .runs) → r .class ≡ c → (x : ℕ) × Ring (generationOf (st .elems)) (classOf (st .elems)) (nextOf (st .elems)) c x (countOf (st .shared) c)
+      go : (r : Run) → In r (F .scanned .scan .runs) → r .class ≡ c → Ringed c
       go r k q =
           let ok = all-at (RunOk st) r (F .scanned .scan .runs) (F .scanned .scan .good) k in (
             r .start,
@@ -146,6 +151,7 @@ module _ (st : State) (F : Found st) where
               whole = λ x f. whole r k q x f (stands x (f .live));
               sized = ok .sized ∙ ap (countOf (st .shared)) q;
             },
+            ap (totalOf (st .shared)) (sym q) ∙ sym (ok .bytes),
           )
         where
           whole : (r : Run) → In r (F .scanned .scan .runs) → r .class ≡ c → (x : ℕ) → Frame (generationOf (st .elems)) (classOf (st .elems)) c x → Stands x → In x (frames r)
@@ -174,9 +180,40 @@ module _ (st : State) (F : Found st) where
       next-prev = λ x l. let r = from x (stands x l) in ap (nextOf (st .elems)) (r .back) ∙ r .leads;
     };
     class-live = λ x l. let t = stands x l in subst (λ (c : ℕ). countOf (st .shared) c ≢ 0) (sym (t .fit .mine)) (omega (arith, t .ok .sized));
-    ring = class-run;
+    sizes = sizes;
+    ring = λ c l. let t = class-run c l in (t .0, t .1);
   }
     where
+      bytes-free : (x : ℕ) → generationOf (st .elems) x ≡ 0 → Zone (st .head .elems .extent) x → bytesOf (st .elems) x ≡ 0
+      bytes-free x l (nowhere q) = rw q (cell-none frameWidth (st .elems) (frameAt .size))
+      bytes-free x l (inside i) = F .scanned .scan .free x (i .low) (i .high) l .size
+      bytes-free x l (beyond b) = past-e (frameAt .size) x (omega arith) b
+
+      bytes-most : (x : ℕ) → Dec (generationOf (st .elems) x ≡ 0) → bytesOf (st .elems) x ≤ mostBytes
+      bytes-most x (yes q) = rw (bytes-free x q (zone (st .head .elems .extent) x)) (omega arith)
+      bytes-most x (no q) = stands x q .fit .small
+
+      total-free : (c : ℕ) → countOf (st .shared) c ≡ 0 → Zone (st .head .shared .extent) c → totalOf (st .shared) c ≡ 0
+      total-free c l (nowhere q) = rw q (cell-none headerWidth (st .shared) (headerAt .total))
+      total-free c l (inside i) = header-ok c i .free l .1
+      total-free c l (beyond b) = past-s (headerAt .total) c (omega arith) b
+
+      free-all : (x : ℕ) → generationOf (st .elems) x ≡ 0 → bytesOf (st .elems) x ≡ 0
+      free-all x l = bytes-free x l (zone (st .head .elems .extent) x)
+
+      in-table : (x : ℕ) → generationOf (st .elems) x ≢ 0 → (0 < x) × (x ≤ st .head .elems .capacity)
+      in-table x l = let i = within frameWidth (st .elems) (st .head .elems .extent) (omega arith) past-e x l in (i .low, omega (arith, i .high, F .elems .extent))
+
+      classes-live : (x : ℕ) → generationOf (st .elems) x ≢ 0 → countOf (st .shared) (classOf (st .elems) x) ≢ 0
+      classes-live x l = let t = stands x l in subst (λ (c : ℕ). countOf (st .shared) c ≢ 0) (sym (t .fit .mine)) (omega (arith, t .ok .sized))
+
+      totals : (c : ℕ) → Dec (countOf (st .shared) c ≡ 0) → totalOf (st .shared) c ≡ whole (st .head .elems .capacity) (classOf (st .elems)) (bytesOf (st .elems)) c
+      totals c (yes e) = total-free c e (zone (st .head .shared .extent) c) ∙ sym (whole-none (st .head .elems .capacity) (generationOf (st .elems)) (classOf (st .elems)) (bytesOf (st .elems)) c free-all (λ x l q. classes-live x l (ap (countOf (st .shared)) q ∙ e)))
+      totals c (no e) = let t = class-run c e in t .2 ∙ sym (ring-over (st .head .elems .capacity) (t .1) free-all in-table)
+
+      sizes : Sizes (st .head .elems .capacity) (generationOf (st .elems)) (classOf (st .elems)) (bytesOf (st .elems)) (totalOf (st .shared))
+      sizes = record { most = λ x. bytes-most x (ℕ-discrete (generationOf (st .elems) x) 0); free = free-all; total = λ c. totals c (ℕ-discrete (countOf (st .shared) c) 0) }
+
       gens : (x : ℕ) → Dec (generationOf (st .elems) x ≡ 0) → generationOf (st .elems) x ≤ lastGeneration
       gens x (yes q) = rw q (omega arith)
       gens x (no q) = stands x q .fit .most
@@ -188,7 +225,7 @@ module _ (st : State) (F : Found st) where
 
       value-zero : (c : ℕ) → countOf (st .shared) c ≡ 0 → Zone (st .head .shared .extent) c → valueOf (st .shared) c ≡ 0
       value-zero c l (nowhere q) = rw q (cell-none headerWidth (st .shared) (headerAt .value))
-      value-zero c l (inside i) = header-ok c i .free l
+      value-zero c l (inside i) = header-ok c i .free l .0
       value-zero c l (beyond b) = past-s (headerAt .value) c (omega arith) b
 
       none : (c : ℕ) → markOf (st .shared) c ≡ 0 → (markOf (st .shared) c ≤ 1) × (markOf (st .shared) c ≤ countOf (st .shared) c)
@@ -202,7 +239,7 @@ module _ (st : State) (F : Found st) where
 -- ---- of a sound state, each part
 module _ (st : State) (S : Working (view st)) where
   pub must-headers : Headers (st .shared) (st .head .shared .extent)
-  must-headers c l = record { free = λ z. S .value-zero (c + 1) z; live = λ u. S .chain-zero (c + 1) u; mark = S .marks (c + 1) }
+  must-headers c l = record { free = λ z. (S .value-zero (c + 1) z, total-none (view st) S (c + 1) z); live = λ u. S .chain-zero (c + 1) u; mark = S .marks (c + 1) }
 
   pub must-shared : PoolOk (st .head .shared) headerWidth (headerAt .nextFree) (st .shared)
   must-shared = record {
@@ -217,7 +254,8 @@ module _ (st : State) (S : Working (view st)) where
       at (suc zero) x l b = S .value-zero x (S .shared .past x b .0)
       at (suc (suc zero)) x l b = S .shared .past x b .1
       at (suc (suc (suc zero))) x l b = omega (arith, S .marks x .1, S .shared .past x b .0)
-      at (suc (suc (suc (suc f)))) x l b = absurd (omega arith)
+      at (suc (suc (suc (suc zero)))) x l b = total-none (view st) S x (S .shared .past x b .0)
+      at (suc (suc (suc (suc (suc f))))) x l b = absurd (omega arith)
 
   pub must-elems : PoolOk (st .head .elems) frameWidth (frameAt .next) (st .elems)
   must-elems = record {
@@ -233,10 +271,11 @@ module _ (st : State) (S : Working (view st)) where
       at (suc (suc zero)) x l b = S .zeros x (S .elems .past x b .0) .1
       at (suc (suc (suc zero))) x l b = S .zeros x (S .elems .past x b .0) .2
       at (suc (suc (suc (suc zero)))) x l b = S .elems .past x b .1
-      at (suc (suc (suc (suc (suc f))))) x l b = absurd (omega arith)
+      at (suc (suc (suc (suc (suc zero))))) x l b = S .sizes .free x (S .elems .past x b .0)
+      at (suc (suc (suc (suc (suc (suc f)))))) x l b = absurd (omega arith)
 
   pub must-free : (x : ℕ) → generationOf (st .elems) x ≡ 0 → FreeOk (st .elems) x
-  must-free x z = let o = S .zeros x z in record { payload = o .0; class = o .1; previous = o .2 }
+  must-free x z = let o = S .zeros x z in record { payload = o .0; class = o .1; previous = o .2; size = S .sizes .free x z }
 
   pub must-class : (x : ℕ) → generationOf (st .elems) x ≢ 0 → Within (st .head .shared .extent) (classOf (st .elems) x)
   must-class x l = let o = live-in (S .shared) (classOf (st .elems) x) (S .class-live x l) in record { low = o .0; high = o .1 }

@@ -2,11 +2,12 @@
 use mathlib.Core.Path.{_≡_}
 use mathlib.Core.Logic.{_≢_}
 use mathlib.Core.Bool.{true, false}
-use mathlib.Core.List.{List, [], _∷_, _++_}
+use mathlib.Core.List.{List, [], _∷_, _++_, map}
 use Prim.Native.Nat.{ℕ, suc, _*_, _-_, _≤_, _<_}
 use lib.ListN.{length}
 use Rattle.marks.specs.Marks.{marked, Added}
-use Rattle.rules.specs.Tables.{mostSlots, frameWidth, headerWidth, generationOf, classOf, nextOf, countOf, State}
+use Rattle.rules.specs.Notation.{sum}
+use Rattle.rules.specs.Tables.{mostSlots, frameWidth, headerWidth, generationOf, classOf, nextOf, bytesOf, countOf, totalOf, State}
 use Rattle.rules.specs.Sound.{Sound}
 use Rattle.rules.specs.Refusals.{shaped}
 use Rattle.rules.proofs.laws.Lists.{All, In, NoDup, Walk}
@@ -32,7 +33,7 @@ pub record FirstAt (st : State) (seen : List ℕ) (x k : ℕ) (after : List ℕ)
   pub frame : FrameAt st x
   pub unseen : marked seen (classOf (st .elems) x - 1) ≡ false
   pub count : k ≡ countOf (st .shared) (classOf (st .elems) x)
-  pub round : Round (st .elems) (st .head .elems .extent) (classOf (st .elems) x) x k x
+  pub round : Round (st .elems) (st .head .elems .extent) (classOf (st .elems) x) x k (totalOf (st .shared) (classOf (st .elems) x)) x
   pub added : Added seen (classOf (st .elems) x - 1) after
 
 -- what one turn of the scan finds at a slot, and the marks then
@@ -64,6 +65,7 @@ pub record RunOk (st : State) (r : Run) : Type 0 where
   pub sized : suc (length (r .rest)) ≡ countOf (st .shared) (r .class)
   pub round : Walk (nextOf (st .elems)) (nextOf (st .elems) (r .start)) (r .start) (r .rest)
   pub once : NoDup (frames r)
+  pub bytes : sum (map (bytesOf (st .elems)) (frames r)) ≡ totalOf (st .shared) (r .class)
   pub fits : All (Fit (st .elems) (st .head .elems .extent) (r .class)) (frames r)
 
 -- The slots up to `i` were passed: `met` frames stand in the `rings` rings that were walked.

@@ -11,6 +11,7 @@ use rules::Head;
 use rules::LAST_GENERATION;
 use rules::NEXT;
 use rules::NEXT_FREE;
+use rules::TOTAL;
 use turns::free_ok;
 use turns::ring_ok;
 ghost use mathlib.Core.Path.{_≡_};
@@ -58,7 +59,8 @@ fn look(head: Head, e: &[u64], s: &[u64], seen: &mut [u64], x: u64) -> Turn
     }
     marks::mark(seen, class - 1);
     let count = slots::get(s, HEADER, COUNT, class);
-    if !ring_ok(e, p.extent, class, x, count) {
+    let total = slots::get(s, HEADER, TOTAL, class);
+    if !ring_ok(e, p.extent, class, x, count, total) {
         return Turn::Wrong;
     }
     Turn::First(count)
@@ -131,7 +133,7 @@ fn rings_ok(head: Head, e: &[u64], s: &[u64]) -> bool
     scan_many(head, e, s)
 }
 
-// Sound 1 to 11.
+// Sound 1 to 11, and the clauses of Tickets 1, 4 and 6.
 pub fn is_sound(head: Head, elems: &[u64], shared: &[u64]) -> bool
     requires { ⌜ refusals.shaped (stateOf head (now elems) (now shared)) ≡ true ⌝ }
     ensures { λ r. ⌜ Is (sound.Sound (stateOf head (now (elems .entry)) (now (shared .entry)))) r ⌝ }

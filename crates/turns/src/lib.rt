@@ -3,9 +3,11 @@ use rules::CLASS;
 use rules::FRAME;
 use rules::GENERATION;
 use rules::LAST_GENERATION;
+use rules::MOST_BYTES;
 use rules::NEXT;
 use rules::PAYLOAD;
 use rules::PREVIOUS;
+use rules::SIZE;
 ghost use Prim.Native.Nat.{_*_, _≤_, _<_};
 ghost use lib.ListN.{length};
 ghost use Rattle.rules.specs.Tables.{frameWidth};
@@ -27,10 +29,13 @@ pub fn free_ok(e: &[u64], x: u64) -> bool
     if slots::get(e, FRAME, PREVIOUS, x) != 0 {
         return false;
     }
+    if slots::get(e, FRAME, SIZE, x) != 0 {
+        return false;
+    }
     true
 }
 
-// Sound 4, 7 and 9 of one frame: its generation, its class, and that the next slot leads back.
+// Sound 4, 7 and 9 and Ticket 6 of one frame: its generation, its class, that the next slot leads back, and its size.
 fn frame_ok(e: &[u64], extent: u64, class: u64, y: u64) -> bool
     requires { ⌜ (extent * frameWidth ≤ length (now e)) × Within extent y ⌝ }
     ensures { λ r. ⌜ Is (Fit (now (e .entry)) extent class y) r ⌝ }
@@ -55,24 +60,36 @@ fn frame_ok(e: &[u64], extent: u64, class: u64, y: u64) -> bool
     if slots::get(e, FRAME, PREVIOUS, q) != y {
         return false;
     }
+    if MOST_BYTES < slots::get(e, FRAME, SIZE, y) {
+        return false;
+    }
     true
 }
 
-// Sound 9 and 11: whether exactly `count` frames of a class stand in the ring of x.
-pub fn ring_ok(e: &[u64], extent: u64, class: u64, x: u64, count: u64) -> bool
+// Sound 9 and 11 and Ticket 6: whether exactly `count` frames of a class stand in the ring of x, with `total` bytes between them.
+pub fn ring_ok(e: &[u64], extent: u64, class: u64, x: u64, count: u64, total: u64) -> bool
     requires { ⌜ (extent * frameWidth ≤ length (now e)) × Within extent x ⌝ }
-    ensures { λ r. ⌜ Is (Round (now (e .entry)) extent class x count x) r ⌝ }
+    ensures { λ r. ⌜ Is (Round (now (e .entry)) extent class x count total x) r ⌝ }
 {
     let mut y = x;
     let mut left = count;
+    let mut rest = total;
     while left != 0 {
         if !frame_ok(e, extent, class, y) {
             return false;
         }
         let q = slots::get(e, FRAME, NEXT, y);
+        let size = slots::get(e, FRAME, SIZE, y);
+        if rest < size {
+            return false;
+        }
         left -= 1;
+        rest -= size;
         if q == x {
             if left != 0 {
+                return false;
+            }
+            if rest != 0 {
                 return false;
             }
             return true;

@@ -12,7 +12,7 @@ use Rattle.rules.specs.declared.Key.{Key}
 use Rattle.rules.specs.declared.Joined.the-variants.{Into}
 use Rattle.rules.specs.declared.Refusal.the-variants.{SameClass, Sealed}
 use Rattle.rules.specs.Notation.{if_then_else_, _<?_}
-use Rattle.rules.specs.Tables.{classOf, valueOf, nextOf, State, stateOf, sizeAt, isSealed}
+use Rattle.rules.specs.Tables.{classOf, valueOf, totalOf, nextOf, State, stateOf, sizeAt, isSealed}
 use Rattle.rules.specs.Refusals.{Outcome, outcome, refuse}
 use Rattle.rules.specs.Slots.{freeShared}
 use Rattle.rules.specs.Runs.{counted, rewritten, exchanged, joined, keeping}
@@ -38,7 +38,7 @@ next-in st x n y c o =
 pub joined-by : (st : State) (x y c : ℕ) (next : Head) (e s s′ : List ℕ)
     → stateOf next e s′ ≡ freeShared (stateOf (st .head) e s) c → c ≡ classOf (st .elems) y
     → e ≡ exchanged (rewritten (sizeAt st y) (st .elems) y (classOf (st .elems) x)) x y
-    → s ≡ counted (st .shared) (classOf (st .elems) x) (sizeAt st x + sizeAt st y)
+    → s ≡ counted (st .shared) (classOf (st .elems) x) (sizeAt st x + sizeAt st y) (totalOf (st .shared) (classOf (st .elems) x) + totalOf (st .shared) (classOf (st .elems) y))
     → stateOf next e s′ ≡ joined st x y
 unfolding joined
 joined-by st x y c next e s s′ f p q r = f ∙ rw (p, q, r)

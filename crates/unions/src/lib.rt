@@ -10,6 +10,7 @@ use rules::HeadJoined;
 use rules::Joined;
 use rules::Key;
 use rules::Refusal;
+use rules::TOTAL;
 use rules::VALUE;
 ghost use mathlib.Core.Path.{_≡_};
 ghost use mathlib.Core.List.{[]};
@@ -56,9 +57,11 @@ fn join(head: Head, elems: &mut [u64], shared: &mut [u64], x: u64, y: u64, kept:
     let size = slots::get(shared, HEADER, COUNT, keeps);
     let moved = slots::get(shared, HEADER, COUNT, goes);
     let was = slots::get(shared, HEADER, VALUE, goes);
+    let total = slots::get(shared, HEADER, TOTAL, keeps);
+    let added = slots::get(shared, HEADER, TOTAL, goes);
     slots::rewrite(elems, moved, y, keeps);
     slots::exchange(elems, x, y);
-    slots::put(shared, HEADER, keeps, COUNT, size + moved);
+    slots::recount(shared, keeps, size + moved, total + added);
     let next = slots::free_header(head, shared, goes);
     HeadJoined {
         head: next,

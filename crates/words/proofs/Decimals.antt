@@ -190,3 +190,17 @@ number-zero-first most b ys h = go (decLt most (wordValue 0 (48 ∷ b ∷ ys)))
     go : Dec (most < wordValue 0 (48 ∷ b ∷ ys)) → number most (48 ∷ b ∷ ys) ≡ none
     go (yes l) = number-large most (48 ∷ b ∷ ys) l
     go (no l) = number-other most (48 ∷ b ∷ ys) (first (wordValue 0 (48 ∷ b ∷ ys)) (omega arith))
+
+-- a number that was read is at most its bound
+abbrev pub AtMost : ℕ → Option ℕ → Type 0
+AtMost most (some n) = n ≤ most
+AtMost most none = Unit {0}
+
+pub number-most : (most : ℕ) (word : List ℕ) → AtMost most (number most word)
+unfolding number
+number-most most word = let n = wordValue 0 word in go n (sameBytes (decimal n) word) (decLt most n)
+  where
+    go : (n : ℕ) (same : Bool) → Dec (most < n) → AtMost most (if (n ≤? most) && same then some n else none)
+    go n same (yes l) = rw (lt-leb n most l) tt
+    go n true (no l) = rw (le-leb n most (omega arith)) (omega arith)
+    go n false (no l) = rw (le-leb n most (omega arith)) tt

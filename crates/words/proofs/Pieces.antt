@@ -11,7 +11,10 @@ use lib.ListN.{length, getD, take, drop, take-append-drop}
 use lib.Seq.{slice, slice-empty, slice-cons, drop-cons, drop-length, drop-append-le, take-suc, take-take, length-take-le, append-snoc}
 use Rattle.rules.specs.Notation.{if_then_else_, _==_}
 use Rattle.rules.specs.Script.{space, prepend, pieces, number, numbers, both}
-use Rattle.words.specs.Words.{onto, wordsAt, WordAt}
+use Rattle.words.specs.declared.words.Numeral.{Numeral}
+use Rattle.words.specs.declared.words.Numeral.the-variants.{Is}
+use Rattle.words.specs.Words.{onto, wordsAt, WordAt, option}
+use Rattle.words.proofs.Decimals.{AtMost, number-most}
 
 -- ---- parts of a list
 
@@ -144,3 +147,24 @@ numbers-over line at h = let w = pieces-some space (drop at line) in rw (words-h
 pub numbers-end : (line : List ℕ) (at : ℕ) → length line < at → numbers [] (wordsAt line at) ≡ some []
 unfolding numbers
 numbers-end line at h = rw (words-none line at h)
+
+-- the last number of a line is at most its bound
+abbrev FirstAtMost : ℕ → Option (List ℕ) → Type 0
+FirstAtMost most (some (n ∷ ns)) = n ≤ most
+FirstAtMost most (some []) = Unit {0}
+FirstAtMost most none = Unit {0}
+
+first-most : (most : ℕ) (words : List (List ℕ)) → FirstAtMost most (numbers (most ∷ []) words)
+unfolding numbers
+first-most most [] = tt
+first-most most (w ∷ ws) = go (number most w) (numbers [] ws) (number-most most w)
+  where
+    go : (found : Option ℕ) (rest : Option (List ℕ)) → AtMost most found → FirstAtMost most (both found rest)
+    go (some n) (some ns) h = h
+    go (some n) none h = tt
+    go none rest h = tt
+
+pub numbers-most : (most : ℕ) (words : List (List ℕ)) (read : Numeral) (n : ℕ) → numbers (most ∷ []) words ≡ both (option read) (some []) → read ≡ Is n → n ≤ most
+numbers-most most words read n e r =
+    let f : numbers (most ∷ []) words ≡ some (n ∷ []) = e ∙ rw r refl in
+    rw f at (first-most most words)

@@ -25,8 +25,8 @@ answered st print call =
     record { state = o .state; printed = if o .said .number == 0 then print o else refusedText (o .said .number) (o .said .values) }
 
 abbrev pub replyOf : State → Line → Reply
-replyOf st (NewRun payload value) = answered st keyText (newRun payload value)
-replyOf st (Insert target payload) = answered st keyText (insert target payload)
+replyOf st (NewRun payload value size) = answered st keyText (newRun payload value size)
+replyOf st (Insert target payload size) = answered st keyText (insert target payload size)
 replyOf st (Union first second) = answered st unionText (union first second)
 replyOf st (ListOf key) = answered st ringText (list key)
 replyOf st (Remove key) = answered st removeText (remove key)

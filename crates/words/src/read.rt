@@ -13,7 +13,7 @@ use crate::words::take_number;
 use crate::words::word_end;
 use rules::Key;
 
-// Script: the most bytes of a line, and the bounds of `i` and `g`, and of `t` and `s`.
+// Script: the most bytes of a line, and the bounds of `i`, `g` and `z`, and of `t` and `s`.
 const LINE_MOST: usize = 127;
 
 const U32: u64 = 4294967295;
@@ -25,9 +25,20 @@ const NUMBERS: usize = 2;
 
 // A line: what it asks for, or that it is malformed.
 pub enum Line {
-    NewRun { payload: u64, value: u64 },
-    Insert { target: Key, payload: u64 },
-    Union { first: Key, second: Key },
+    NewRun {
+        payload: u64,
+        value: u64,
+        size: u32,
+    },
+    Insert {
+        target: Key,
+        payload: u64,
+        size: u32,
+    },
+    Union {
+        first: Key,
+        second: Key,
+    },
     List(Key),
     Remove(Key),
     Malformed,
@@ -87,10 +98,17 @@ fn read_new_run(line: &[u8]) -> Line
     else {
         return Line::Malformed;
     };
-    let Numeral::Is(value) = last_number(line, next, U64) else {
+    let Taken::Number { value, next: past } = take_number(line, next, U64) else {
         return Line::Malformed;
     };
-    Line::NewRun { payload, value }
+    let Numeral::Is(size) = last_number(line, past, U32) else {
+        return Line::Malformed;
+    };
+    Line::NewRun {
+        payload,
+        value,
+        size: size as u32,
+    }
 }
 
 fn read_insert(line: &[u8]) -> Line
@@ -99,10 +117,21 @@ fn read_insert(line: &[u8]) -> Line
     let TakenKey::Known { key: target, next } = take_key(line, NUMBERS) else {
         return Line::Malformed;
     };
-    let Numeral::Is(payload) = last_number(line, next, U64) else {
+    let Taken::Number {
+        value: payload,
+        next: past,
+    } = take_number(line, next, U64)
+    else {
         return Line::Malformed;
     };
-    Line::Insert { target, payload }
+    let Numeral::Is(size) = last_number(line, past, U32) else {
+        return Line::Malformed;
+    };
+    Line::Insert {
+        target,
+        payload,
+        size: size as u32,
+    }
 }
 
 fn read_union(line: &[u8]) -> Line

@@ -22,7 +22,7 @@ abbrev asks : {M : Type 1} (𝓤 : URA M) → Asks 𝓤
 asks 𝓤 h es ss = fact 𝓤 (Ready (stateOf h es ss))
 
 abbrev does : Does
-does h es ss k v h′ r es′ ss′ = leaves h′ es′ ss′ [] (saidInserted r) ≡ step (stateOf h es ss) [] (insert k v)
+does h es ss k v z h′ r es′ ss′ = leaves h′ es′ ss′ [] (saidInserted r) ≡ step (stateOf h es ss) [] (insert k v z)
 
 pub insert-in-place-spec : {M : Type 1} → statement M
 unfolding code.routine tablesOf

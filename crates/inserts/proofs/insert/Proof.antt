@@ -1,6 +1,8 @@
 use mathlib.Core.Path.{_∙_}
 use Rattle.rules.specs.Runs.{insert}
 use Rattle.rules.proofs.laws.Safe.{safe}
+use Rattle.rules.proofs.laws.Totals.{sized-is}
+use native.Mathlib.Omega.{arith}
 use Rattle.slots.proofs.Live.{on-live}
 use borrow.Author.Needs.{needs}
 use Rattle.inserts.proofs.insert.Statement.{statement}
@@ -52,7 +54,7 @@ slot-requires : tie.Need-slot-requires
 slot-requires c κs = let s = safe _ (c .before .before .before .before .before .before .before .before .before .before .before .before .before .before .pre) in search needs
 
 insert-at-requires : tie.Need-insert-at-requires
-insert-at-requires c κs = (on-live _ _ _ _ (c .before .before .before .before .before .before .before .before .before .before .before .before .before .before .before .before .before .pre) (c .before .before .before .before .before .before .before .before .before .before .before .before .before .find .ensures _) (c .before .before .before .before .before .before .before .before .before .before .before .x .given .1), c .before .before .before .before .is-full .ensures ∙ c .before .before .before .if2 .left)
+insert-at-requires c κs = (on-live _ _ _ _ (c .before .before .before .before .before .before .before .before .before .before .before .before .before .before .before .before .before .pre) (c .before .before .before .before .before .before .before .before .before .before .before .before .before .find .ensures _) (c .before .before .before .before .before .before .before .before .before .before .before .x .given .1), c .before .before .before .before .is-full .ensures ∙ c .before .before .before .if2 .left, omega (arith, c .before .before .before .before .before .before .before .before .before .before .before .before .before .before .before .before .before .fits .size))
 
 same-length-6 : tie.Need-same-length-6
 same-length-6 c = search needs
@@ -62,7 +64,7 @@ same-length-7 c = search needs
 
 returns-4 : tie.Need-returns-4
 unfolding insert
-returns-4 c = let s = c .before .before .before .before .before .before .before .before .before .before .before .before .before .before .before .before .before .before .before .before .before .before .args .shared .now in rw ((c .before .before .before .before .before .before .before .before .before .before .before .before .before .before .before .before .before .before .find .ensures s .same) ∙ (c .before .before .before .before .before .before .before .before .before .before .before .before .before .before .before .before .x .given .1), (c .before .before .before .before .before .before .before .before .before .before .before .before .is-sealed .ensures) ∙ (c .before .before .before .before .before .before .before .before .before .before .before .if1 .left), (c .before .before .before .before .before .before .before .before .before .is-full .ensures) ∙ (c .before .before .before .before .before .before .before .before .if2 .left), (c .before .before .before .before .insert-at .ensures), (c .before .before .before .before .before .before .before .slot .ensures))
+returns-4 c = let s = c .before .before .before .before .before .before .before .before .before .before .before .before .before .before .before .before .before .before .before .before .before .before .args .shared .now in rw (sized-is (c .before .before .before .before .before .before .before .before .before .before .before .before .before .before .before .before .before .before .before .before .before .before .args .size) (omega (arith, c .before .before .before .before .before .before .before .before .before .before .before .before .before .before .before .before .before .before .before .before .before .before .fits .size)), (c .before .before .before .before .before .before .before .before .before .before .before .before .before .before .before .before .before .before .find .ensures s .same) ∙ (c .before .before .before .before .before .before .before .before .before .before .before .before .before .before .before .before .x .given .1), (c .before .before .before .before .before .before .before .before .before .before .before .before .is-sealed .ensures) ∙ (c .before .before .before .before .before .before .before .before .before .before .before .if1 .left), (c .before .before .before .before .before .before .before .before .before .is-full .ensures) ∙ (c .before .before .before .before .before .before .before .before .if2 .left), (c .before .before .before .before .insert-at .ensures), (c .before .before .before .before .before .before .before .slot .ensures))
 
 pub insert-spec : {M : Type 1} → statement M
 insert-spec =

@@ -18,11 +18,17 @@ splice-requires c κs = let p = c .before .before .before .before .before .befor
 get-requires : tie.Need-get-requires
 get-requires c κs = search needs
 
-add-put : tie.Need-add-put
-add-put c = let p = c .before .before .before .before .before .before .before .before .before .before .before .before .before .pre .0 in rw ((c .before .get .ensures), (c .before .before .before .before .before .splice .ensures .0)) (search needs)
+get-requires-2 : tie.Need-get-requires-2
+get-requires-2 c κs = let p = c .before .before .before .before .before .before .before .before .before .before .before .before .before .pre .0 in rw (c .before .before .before .before .before .splice .ensures .0) (search needs)
 
-put-requires : tie.Need-put-requires
-put-requires c κs = let p = c .before .before .before .before .before .before .before .before .before .before .before .before .before .pre .0 in search needs
+add-recount : tie.Need-add-recount
+add-recount c = let p = c .before .before .before .before .before .before .before .before .before .before .before .before .before .before .before .pre .0 in rw ((c .before .before .before .get .ensures), (c .before .before .before .before .before .before .before .splice .ensures .0)) (search needs)
+
+add-recount-2 : tie.Need-add-recount-2
+add-recount-2 c = let p = c .before .before .before .before .before .before .before .before .before .before .before .before .before .before .before .pre in rw ((c .before .get2 .ensures), (c .before .before .before .before .before .before .before .splice .ensures .0)) (search needs)
+
+recount-requires : tie.Need-recount-requires
+recount-requires c κs = let p = c .before .before .before .before .before .before .before .before .before .before .before .before .before .before .before .pre .0 in search needs
 
 same-length : tie.Need-same-length
 same-length c = search needs
@@ -32,7 +38,7 @@ same-length-2 c = search needs
 
 returns : tie.Need-returns
 unfolding inserted spliced
-returns c = rw ((c .before .before .put .ensures), (c .before .before .before .before .get .ensures), (c .before .before .before .before .before .before .before .before .splice .ensures .1), (c .before .before .before .before .before .before .before .before .splice .ensures .0), (c .before .before .before .before .before .before .before .before .before .before .take-frame .ensures []), (c .before .before .before .before .before .before .before .before .before .before .before .before .slot .ensures))
+returns c = rw ((c .before .before .recount .ensures), (c .before .before .before .before .get2 .ensures), (c .before .before .before .before .before .before .get .ensures), (c .before .before .before .before .before .before .before .before .before .before .splice .ensures .1), (c .before .before .before .before .before .before .before .before .before .before .splice .ensures .0), (c .before .before .before .before .before .before .before .before .before .before .before .before .take-frame .ensures []), (c .before .before .before .before .before .before .before .before .before .before .before .before .before .before .slot .ensures))
 
 pub insert-at-spec : {M : Type 1} → statement M
 insert-at-spec =
@@ -42,8 +48,10 @@ insert-at-spec =
     take-frame-requires
     splice-requires
     get-requires
-    add-put
-    put-requires
+    get-requires-2
+    add-recount
+    add-recount-2
+    recount-requires
     same-length
     same-length-2
     returns)

@@ -1,4 +1,6 @@
 use Rattle.rules.proofs.laws.Safe.{safe}
+use Rattle.rules.proofs.laws.Totals.{sized-is}
+use native.Mathlib.Omega.{arith}
 use Rattle.rules.specs.Runs.{newRun}
 use mathlib.Core.Path.{_∙_}
 use borrow.Author.Needs.{needs}
@@ -33,7 +35,7 @@ same-length-2 c = search needs
 
 returns-3 : tie.Need-returns-3
 unfolding newRun
-returns-3 c = rw ((c .before .before .before .before .before .before .before .before .before .before .before .is-full .ensures) ∙ (c .before .before .before .before .before .before .before .before .before .before .if1 .left), (c .before .before .before .before .before .before .before .before .before .is-full2 .ensures) ∙ (c .before .before .before .before .before .before .before .before .if2 .left), (c .before .before .before .before .begin .ensures), (c .before .before .before .before .before .before .before .slot .ensures))
+returns-3 c = rw (sized-is (c .before .before .before .before .before .before .before .before .before .before .before .before .before .before .before .before .args .size) (omega (arith, c .before .before .before .before .before .before .before .before .before .before .before .before .before .before .before .before .fits .size)), (c .before .before .before .before .before .before .before .before .before .before .before .is-full .ensures) ∙ (c .before .before .before .before .before .before .before .before .before .before .if1 .left), (c .before .before .before .before .before .before .before .before .before .is-full2 .ensures) ∙ (c .before .before .before .before .before .before .before .before .if2 .left), (c .before .before .before .before .begin .ensures), (c .before .before .before .before .before .before .before .slot .ensures))
 
 pub insert-surject-spec : {M : Type 1} → statement M
 insert-surject-spec =

@@ -42,25 +42,31 @@ get-requires-3 : tie.Need-get-requires-3 Inv-loop μ-loop
 get-requires-3 c κs = omega arith
 
 returns-3 : tie.Need-returns-3 Inv-loop μ-loop
-returns-3 c = λ p. c .if4 .taken (c .before .get3 .ensures ∙ p _ (c .before .before .before .before .before .before .before .loop-test .taken) .free (sym (c .before .before .before .before .before .before .get .ensures) ∙ c .before .before .if3 .taken))
+returns-3 c = λ p. c .if4 .taken (c .before .get3 .ensures ∙ p _ (c .before .before .before .before .before .before .before .loop-test .taken) .free (sym (c .before .before .before .before .before .before .get .ensures) ∙ c .before .before .if3 .taken) .0)
+
+get-requires-4 : tie.Need-get-requires-4 Inv-loop μ-loop
+get-requires-4 c κs = omega arith
+
+returns-4 : tie.Need-returns-4 Inv-loop μ-loop
+returns-4 c = λ p. c .if5 .taken (c .before .get4 .ensures ∙ p _ (c .before .before .before .before .before .before .before .before .before .loop-test .taken) .free (sym (c .before .before .before .before .before .before .before .before .get .ensures) ∙ c .before .before .before .before .if3 .taken) .1)
 
 loop-less : tie.Need-loop-less Inv-loop μ-loop
 loop-less c = omega arith
 
 loop-again : tie.Need-loop-again Inv-loop μ-loop
 loop-again c =
-    let d = c .before .before .before .before .before .before in
+    let d = c .before .before .before .before .before .before .before .before in
     let l = d .before .before .loop in
     let s = d .before .before .before .before .args .s .now in
-    let z : cell headerWidth s 0 (l .i + 1) ≡ 0 = sym (d .get .ensures) ∙ c .before .before .if3 .taken in
-    let m = marked s (l .i + 1) (d .get .ensures) (c .before .before .before .before .before .get2 .ensures) (c .before .before .before .before .if1 .left) (c .before .before .before .if2 .left) in
-    (omega (arith, d .before .loop-test .taken), below-more _ _ (l .inv .1) (record { free = λ _. sym (c .before .get3 .ensures) ∙ c .if4 .left; live = λ u. absurd (u z); mark = m }))
+    let z : cell headerWidth s 0 (l .i + 1) ≡ 0 = sym (d .get .ensures) ∙ c .before .before .before .before .if3 .taken in
+    let m = marked s (l .i + 1) (d .get .ensures) (c .before .before .before .before .before .before .before .get2 .ensures) (c .before .before .before .before .before .before .if1 .left) (c .before .before .before .before .before .if2 .left) in
+    (omega (arith, d .before .loop-test .taken), below-more _ _ (l .inv .1) (record { free = λ _. (sym (c .before .before .before .get3 .ensures) ∙ c .before .before .if4 .left, sym (c .before .get4 .ensures) ∙ c .if5 .left); live = λ u. absurd (u z); mark = m }))
 
-get-requires-4 : tie.Need-get-requires-4 Inv-loop μ-loop
-get-requires-4 c κs = omega arith
+get-requires-5 : tie.Need-get-requires-5 Inv-loop μ-loop
+get-requires-5 c κs = omega arith
 
-returns-4 : tie.Need-returns-4 Inv-loop μ-loop
-returns-4 c = λ p. c .if5 .taken (c .before .get4 .ensures ∙ p _ (c .before .before .before .before .before .before .before .loop-test .taken) .live (λ z. c .before .before .if3 .left (c .before .before .before .before .before .before .get .ensures ∙ z)))
+returns-5 : tie.Need-returns-5 Inv-loop μ-loop
+returns-5 c = λ p. c .if6 .taken (c .before .get5 .ensures ∙ p _ (c .before .before .before .before .before .before .before .loop-test .taken) .live (λ z. c .before .before .if3 .left (c .before .before .before .before .before .before .get .ensures ∙ z)))
 
 loop-less-2 : tie.Need-loop-less-2 Inv-loop μ-loop
 loop-less-2 c = omega arith
@@ -72,10 +78,10 @@ loop-again-2 c =
     let s = d .before .before .before .before .args .s .now in
     let u : cell headerWidth s 0 (l .i + 1) ≢ 0 = λ z. c .before .before .if3 .left (d .get .ensures ∙ z) in
     let m = marked s (l .i + 1) (d .get .ensures) (c .before .before .before .before .before .get2 .ensures) (c .before .before .before .before .if1 .left) (c .before .before .before .if2 .left) in
-    (omega (arith, d .before .loop-test .taken), below-more _ _ (l .inv .1) (record { free = λ z. absurd (u z); live = λ _. sym (c .before .get4 .ensures) ∙ c .if5 .left; mark = m }))
+    (omega (arith, d .before .loop-test .taken), below-more _ _ (l .inv .1) (record { free = λ z. absurd (u z); live = λ _. sym (c .before .get5 .ensures) ∙ c .if6 .left; mark = m }))
 
-returns-5 : tie.Need-returns-5 Inv-loop μ-loop
-returns-5 c = λ k h. c .before .loop .inv .1 k (omega (arith, c .loop-test .left))
+returns-6 : tie.Need-returns-6 Inv-loop μ-loop
+returns-6 c = λ k h. c .before .loop .inv .1 k (omega (arith, c .loop-test .left))
 
 pub headers-ok-spec : {M : Type 1} → statement M
 headers-ok-spec =
@@ -91,10 +97,12 @@ headers-ok-spec =
     returns-2
     get-requires-3
     returns-3
-    loop-less
-    loop-again
     get-requires-4
     returns-4
+    loop-less
+    loop-again
+    get-requires-5
+    returns-5
     loop-less-2
     loop-again-2
-    returns-5)
+    returns-6)

@@ -17,19 +17,25 @@ same-length : tie.Need-same-length
 same-length c = search needs
 
 returns : tie.Need-returns
-returns c = λ e. left-last _ _ _ _ (rw (← (c .before .before .before .before .before .before .before .get .ensures)) (c .before .before .before .before .before .before .if1 .taken)) (c .before .before .free-header .ensures e) (rw (c .before .before .before .before .get2 .ensures))
+returns c = λ e. left-last _ _ _ _ _ (rw (← (c .before .before .before .before .before .before .before .get .ensures)) (c .before .before .before .before .before .before .if1 .taken)) (c .before .before .free-header .ensures e) (rw (c .before .before .before .before .get2 .ensures))
 
-sub-put : tie.Need-sub-put
-sub-put c = search needs
+get-requires-3 : tie.Need-get-requires-3
+get-requires-3 c κs = search needs
 
-put-requires : tie.Need-put-requires
-put-requires c κs = search needs
+sub-recount : tie.Need-sub-recount
+sub-recount c = search needs
+
+sub-recount-2 : tie.Need-sub-recount-2
+sub-recount-2 c = search needs
+
+recount-requires : tie.Need-recount-requires
+recount-requires c κs = search needs
 
 same-length-2 : tie.Need-same-length-2
 same-length-2 c = search needs
 
 returns-2 : tie.Need-returns-2
-returns-2 c = λ e. left-on _ _ _ _ (rw (← (c .before .before .before .before .before .get .ensures)) (c .before .before .before .before .if1 .left)) (rw ((c .before .before .put .ensures), (c .before .before .before .before .before .get .ensures))) refl
+returns-2 c = λ e. left-on _ _ _ _ _ (rw (← (c .before .before .before .before .before .before .before .get .ensures)) (c .before .before .before .before .before .before .if1 .left)) (rw ((c .before .before .recount .ensures), (c .before .before .before .before .get3 .ensures), (c .before .before .before .before .before .before .before .get .ensures))) refl
 
 pub leave-spec : {M : Type 1} → statement M
 leave-spec =
@@ -40,7 +46,9 @@ leave-spec =
     free-header-requires
     same-length
     returns
-    sub-put
-    put-requires
+    get-requires-3
+    sub-recount
+    sub-recount-2
+    recount-requires
     same-length-2
     returns-2)

@@ -8,7 +8,7 @@ use native.Mathlib.Omega.{arith}
 use native.Mathlib.Decide.{ℕ-discrete}
 use Rattle.rules.specs.declared.Key.{Key}
 use Rattle.rules.specs.Notation.{if_then_else_, _==_, _<?_}
-use Rattle.rules.specs.Tables.{frameWidth, classOf, State, withShared, sizeAt, isSealed}
+use Rattle.rules.specs.Tables.{sized, frameWidth, classOf, State, withShared, sizeAt, isSealed}
 use Rattle.rules.specs.Refusals.{Ruling, refuse, accept, outcome, withLive}
 use Rattle.rules.specs.Reads
 use Rattle.rules.specs.Slots
@@ -23,7 +23,7 @@ use Rattle.rules.specs.Exchange
 use Rattle.rules.specs.Exchange.{allDiffer, valued}
 use Rattle.rules.specs.Compress
 use Rattle.rules.specs.Compress.{pairWidth}
-use Rattle.rules.specs.Calls.{Call, lenSurject, inSameSurject, getElement, getShared, lookup, setElement, setShared, check, newRun, insert, union, remove, removeShared, list, drain, seal, drainAll, clear, exchange, compress, compressWith, ruling, Ready}
+use Rattle.rules.specs.Calls.{Call, lenSurject, inSameSurject, getElement, getShared, getSize, getTotal, lookup, setElement, setShared, check, newRun, insert, union, remove, removeShared, list, drain, seal, drainAll, clear, exchange, compress, compressWith, ruling, Ready}
 use Rattle.rules.specs.Renaming.{Compresses, canonical, kept}
 use Rattle.rules.proofs.laws.Columns.{cell-zeros, cols, upd-same, upd-other}
 use Rattle.rules.proofs.laws.Working.{View, view}
@@ -99,20 +99,22 @@ module _ (st : State) (R : Ready st) where
   set-closed x payload h = let e = elementSet-view st R x payload h in closed-same (view st) (view (elementSet st x payload)) (ap (λ (v : View). v .gen) e) (ap (λ (v : View). v .class) e) (ap (λ (v : View). v .mark) e)
 
   pub closes : (lent : List ℕ) (c : Call) → (Compresses c → outcome st lent (ruling st lent c) .said .number ≢ 0) → Closes st (ruling st lent c)
-  unfolding Reads.lenSurject Reads.inSameSurject Reads.getElement Reads.getShared Reads.lookup Reads.setElement Reads.setShared Runs.newRun Runs.insert Runs.keeping Runs.union Runs.remove Drains.removeShared Drains.list Drains.drain Drains.drainAll Drains.clear Drains.cleared Seals.seal Exchange.exchange Compress.compress Compress.compressWith
+  unfolding Reads.lenSurject Reads.inSameSurject Reads.getElement Reads.getShared Reads.getSize Reads.getTotal Reads.lookup Reads.setElement Reads.setShared Runs.newRun Runs.insert Runs.keeping Runs.union Runs.remove Drains.removeShared Drains.list Drains.drain Drains.drainAll Drains.clear Drains.cleared Seals.seal Exchange.exchange Compress.compress Compress.compressWith
   closes lent (lenSurject k) n = on-live k _ (λ h. same)
   closes lent (inSameSurject j k) n = on-live j _ (λ h. on-live k _ (λ l. same))
   closes lent (getElement k) n = on-live k _ (λ h. same)
   closes lent (lookup k) n = on-live k _ (λ h. same)
   closes lent (getShared k) n = on-live k _ (λ h. same)
+  closes lent (getSize k) n = on-live k _ (λ h. same)
+  closes lent (getTotal k) n = on-live k _ (λ h. same)
   closes lent (setElement k payload) n = on-live k _ (λ h. set-closed (k .slot) payload h)
   closes lent (setShared k value) n = on-live k _ (λ h. closed-same (view st) _ refl refl (search cols))
   closes lent check n = same
-  closes lent (newRun payload value) n =
+  closes lent (newRun payload value size) n =
       either (isFull (st .head .shared)) _ _ (λ e. tt) (λ e.
-      either (isFull (st .head .elems)) _ _ (λ f. tt) (λ f. steady _ (begun-steady st R payload value (room (working st R .elems) f) (room (working st R .shared) e))))
-  closes lent (insert k payload) n = on-live k _ (λ h. either (isSealed st (k .slot)) _ _ (λ s. tt) (λ s.
-      either (isFull (st .head .elems)) _ _ (λ f. tt) (λ f. steady _ (inserted-steady st R (k .slot) payload h (room (working st R .elems) f) (unmarked st R (k .slot) s)))))
+      either (isFull (st .head .elems)) _ _ (λ f. tt) (λ f. steady _ (begun-steady st R payload value (sized size) (room (working st R .elems) f) (room (working st R .shared) e))))
+  closes lent (insert k payload size) n = on-live k _ (λ h. either (isSealed st (k .slot)) _ _ (λ s. tt) (λ s.
+      either (isFull (st .head .elems)) _ _ (λ f. tt) (λ f. steady _ (inserted-steady st R (k .slot) payload (sized size) h (room (working st R .elems) f) (unmarked st R (k .slot) s)))))
   closes lent (union j k) n =
       let x = j .slot in
       let y = k .slot in

@@ -17,7 +17,7 @@ use Rattle.rules.specs.Exchange
 use Rattle.rules.specs.Exchange.{allDiffer}
 use Rattle.rules.specs.Compress
 use Rattle.rules.specs.Compress.{pairWidth}
-use Rattle.rules.specs.Calls.{Call, lenSurject, inSameSurject, getElement, getShared, lookup, setElement, setShared, check, newRun, insert, union, remove, removeShared, list, drain, seal, drainAll, clear, exchange, compress, compressWith, ruling}
+use Rattle.rules.specs.Calls.{Call, lenSurject, inSameSurject, getElement, getShared, getSize, getTotal, lookup, setElement, setShared, check, newRun, insert, union, remove, removeShared, list, drain, seal, drainAll, clear, exchange, compress, compressWith, ruling}
 use Rattle.rules.specs.History.{History}
 use Rattle.rules.proofs.laws.Lists.{all-map, all-image}
 use Rattle.rules.proofs.laws.Tests.{eq-is, is-not}
@@ -63,21 +63,23 @@ module _ (st : State) (lent : List ℕ) (h : History) (G : Good st h) where
       (λ e. refused))
 
   pub call-follows : (c : Call) → Follows h c (ruling st lent c)
-  unfolding Reads.lenSurject Reads.inSameSurject Reads.getElement Reads.getShared Reads.lookup Reads.setElement Reads.setShared Runs.newRun Runs.insert Runs.remove Drains.removeShared Drains.list Drains.drain Drains.drainAll Drains.clear Seals.seal Compress.compress Compress.compressWith
+  unfolding Reads.lenSurject Reads.inSameSurject Reads.getElement Reads.getShared Reads.getSize Reads.getTotal Reads.lookup Reads.setElement Reads.setShared Runs.newRun Runs.insert Runs.remove Drains.removeShared Drains.list Drains.drain Drains.drainAll Drains.clear Seals.seal Compress.compress Compress.compressWith
   call-follows (lenSurject k) = on-live h (lenSurject k) st k _ (λ l. done G)
   call-follows (inSameSurject j k) = on-live h (inSameSurject j k) st j _ (λ i. on-live h (inSameSurject j k) st k _ (λ l. done G))
   call-follows (getElement k) = on-live h (getElement k) st k _ (λ l. done G)
   call-follows (lookup k) = on-live h (lookup k) st k _ (λ l. done G)
   call-follows (getShared k) = on-live h (getShared k) st k _ (λ l. done G)
+  call-follows (getSize k) = on-live h (getSize k) st k _ (λ l. done G)
+  call-follows (getTotal k) = on-live h (getTotal k) st k _ (λ l. done G)
   call-follows (setElement k payload) = on-live h (setElement k payload) st k _ (λ l. done (good-setElement st h G (k .slot) payload (live-of st k l .live)))
   call-follows (setShared k value) = on-live h (setShared k value) st k _ (λ l. done (good-setShared st h G (classOf (st .elems) (k .slot)) value (working st (G .ready) .class-live (k .slot) (live-of st k l .live))))
   call-follows check = done G
-  call-follows (newRun payload value) =
-      either h (newRun payload value) (isFull (st .head .shared)) _ _ (λ e. refused) (λ e.
-      either h (newRun payload value) (isFull (st .head .elems)) _ _ (λ f. refused) (λ f. done (good-newRun st h G payload value f e)))
-  call-follows (insert k payload) = on-live h (insert k payload) st k _ (λ l.
-      either h (insert k payload) (isSealed st (k .slot)) _ _ (λ s. refused) (λ s.
-      either h (insert k payload) (isFull (st .head .elems)) _ _ (λ e. refused) (λ e. done (good-insert st h G k payload (live-of st k l) (unmarked st (G .ready) (k .slot) s) e))))
+  call-follows (newRun payload value size) =
+      either h (newRun payload value size) (isFull (st .head .shared)) _ _ (λ e. refused) (λ e.
+      either h (newRun payload value size) (isFull (st .head .elems)) _ _ (λ f. refused) (λ f. done (good-newRun st h G payload value size f e)))
+  call-follows (insert k payload size) = on-live h (insert k payload size) st k _ (λ l.
+      either h (insert k payload size) (isSealed st (k .slot)) _ _ (λ s. refused) (λ s.
+      either h (insert k payload size) (isFull (st .head .elems)) _ _ (λ e. refused) (λ e. done (good-insert st h G k payload size (live-of st k l) (unmarked st (G .ready) (k .slot) s) e))))
   call-follows (union j k) = union-follows j k
   call-follows (remove k) = on-live h (remove k) st k _ (λ l. done (good-remove st h G k (live-of st k l) []))
   call-follows (removeShared k) = on-live h (removeShared k) st k _ (λ l. done (good-removeShared st h G k (live-of st k l) []))

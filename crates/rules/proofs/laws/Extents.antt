@@ -8,7 +8,7 @@ use native.Mathlib.Omega.{arith}
 use Rattle.rules.specs.declared.Pool.{Pool}
 use Rattle.rules.specs.declared.Key.{Key}
 use Rattle.rules.specs.Notation.{if_then_else_, _==_, _<?_}
-use Rattle.rules.specs.Tables.{frameWidth, classOf, nextOf, countOf, State, Side, elemSide, sharedSide, sizeAt, isSealed}
+use Rattle.rules.specs.Tables.{frameWidth, classOf, nextOf, bytesOf, countOf, State, Side, elemSide, sharedSide, sizeAt, isSealed}
 use Rattle.rules.specs.Sound.{bothFit}
 use Rattle.rules.specs.Refusals.{Ruling, refuse, accept, outcome, withLive}
 use Rattle.rules.specs.Reads
@@ -24,7 +24,7 @@ use Rattle.rules.specs.Exchange
 use Rattle.rules.specs.Exchange.{allDiffer}
 use Rattle.rules.specs.Compress
 use Rattle.rules.specs.Compress.{pairWidth}
-use Rattle.rules.specs.Calls.{Call, lenSurject, inSameSurject, getElement, getShared, lookup, setElement, setShared, check, newRun, insert, union, remove, removeShared, list, drain, seal, drainAll, clear, exchange, compress, compressWith, ruling, step}
+use Rattle.rules.specs.Calls.{Call, lenSurject, inSameSurject, getElement, getShared, getSize, getTotal, lookup, setElement, setShared, check, newRun, insert, union, remove, removeShared, list, drain, seal, drainAll, clear, exchange, compress, compressWith, ruling, step}
 use Rattle.rules.proofs.laws.Rulings.{by-test, by-key, by-keys}
 
 -- Rules 3: after taking a slot the extent is the higher of what it was and the slot taken
@@ -66,13 +66,13 @@ taken-least : (t : Side) → t .pool .extent ≤ taken t .extent
 unfolding taken
 taken-least t = extent-either (t .pool .root == 0) _ _ _ (omega arith) (omega arith)
 
-left-not : (st : State) (c : ℕ) → NotLower st (left st c)
+left-not : (st : State) (c z : ℕ) → NotLower st (left st c z)
 unfolding left freeShared freed
-left-not st c = by-either st (countOf (st .shared) c == 1) _ _ (record { elems = omega arith; shared = omega arith }) (record { elems = omega arith; shared = omega arith })
+left-not st c z = by-either st (countOf (st .shared) c == 1) _ _ (record { elems = omega arith; shared = omega arith }) (record { elems = omega arith; shared = omega arith })
 
 removed-not : (st : State) (x : ℕ) → NotLower st (removed st x)
 unfolding removed unlinked freeElement freed raise
-removed-not st x = let l = left-not (freeElement (unlinked st x) x) (classOf (st .elems) x) in record { elems = l .elems; shared = l .shared }
+removed-not st x = let l = left-not (freeElement (unlinked st x) x) (classOf (st .elems) x) (bytesOf (st .elems) x) in record { elems = l .elems; shared = l .shared }
 
 freeRing-not : (n : ℕ) (st : State) (x : ℕ) → NotLower st (freeRing n st x)
 unfolding freeRing freeElement freed
@@ -103,18 +103,20 @@ module _ (st : State) (lent : List ℕ) where
   on-live k rule h = by-key (Keeps st) (λ r. tt) st k rule (λ l. h)
 
   keeps : (c : Call) → (Anew c → ⊥) → Keeps st (ruling st lent c)
-  unfolding Reads.lenSurject Reads.inSameSurject Reads.getElement Reads.getShared Reads.lookup Reads.setElement Reads.setShared Runs.newRun Runs.begun Runs.insert Runs.inserted Runs.keeping Runs.joined Runs.union Runs.remove Drains.removeShared Drains.list Drains.drain Seals.seal Seals.sealed Exchange.exchange freeShared freed raise
+  unfolding Reads.lenSurject Reads.inSameSurject Reads.getElement Reads.getShared Reads.getSize Reads.getTotal Reads.lookup Reads.setElement Reads.setShared Runs.newRun Runs.begun Runs.insert Runs.inserted Runs.keeping Runs.joined Runs.union Runs.remove Drains.removeShared Drains.list Drains.drain Seals.seal Seals.sealed Exchange.exchange freeShared freed raise
   keeps (lenSurject k) n = on-live k _ (same st)
   keeps (inSameSurject j k) n = on-live j _ (on-live k _ (same st))
   keeps (getElement k) n = on-live k _ (same st)
   keeps (lookup k) n = on-live k _ (same st)
   keeps (getShared k) n = on-live k _ (same st)
+  keeps (getSize k) n = on-live k _ (same st)
+  keeps (getTotal k) n = on-live k _ (same st)
   keeps (setElement k payload) n = on-live k _ (record { elems = omega arith; shared = omega arith })
   keeps (setShared k value) n = on-live k _ (record { elems = omega arith; shared = omega arith })
   keeps check n = same st
-  keeps (newRun payload value) n =
+  keeps (newRun payload value size) n =
       either (isFull (st .head .shared)) _ _ tt (either (isFull (st .head .elems)) _ _ tt (record { elems = taken-least (elemSide st); shared = taken-least (sharedSide st) }))
-  keeps (insert k payload) n =
+  keeps (insert k payload size) n =
       on-live k _ (either (isSealed st (k .slot)) _ _ tt (either (isFull (st .head .elems)) _ _ tt (record { elems = taken-least (elemSide st); shared = omega arith })))
   keeps (union j k) n =
       let x = j .slot in

@@ -1,24 +1,26 @@
 -- Shape, soundness and the history at once; from it, what demand 3 claims of the tables.
 use mathlib.Core.Path.{_≡_, refl, sym, ap, _∙_, subst}
 use mathlib.Core.Logic.{_≢_}
-use mathlib.Core.List.{List, _∷_}
+use mathlib.Core.List.{List, _∷_, map}
 use Prim.Native.Nat.{ℕ, _+_, _≤_, _<_}
 use native.Mathlib.Omega.{arith}
 use lib.ListN.{length}
 use Rattle.rules.specs.declared.Key.{Key}
 use Rattle.rules.specs.declared.Found.the-variants as lookup
-use Rattle.rules.specs.Notation.{steps, along, flat}
+use Rattle.rules.specs.Notation.{steps, along, sum, flat}
 use Rattle.rules.specs.Tables
-use Rattle.rules.specs.Tables.{State, sharedSide, sizeAt}
+use Rattle.rules.specs.Tables.{totalOf, State, sharedSide, sizeAt}
 use Rattle.rules.specs.Sound.{Header}
 use Rattle.rules.specs.Calls.{Ready}
-use Rattle.rules.specs.History.{History, frames, withRuns, runOf, othersOf, runsBut}
+use Rattle.rules.specs.History.{History, Given, givenFor, frames, withRuns, runOf, othersOf, runsBut}
 use Rattle.rules.specs.Demand
 use Rattle.rules.specs.Demand.{headerOf, Agrees}
-use Rattle.rules.proofs.laws.Lists.{In, all-at}
+use Rattle.rules.proofs.laws.Lists.{In, all-map, all-at}
 use Rattle.rules.proofs.laws.Steps.{walk-along, walk-end, walk-once}
 use Rattle.rules.proofs.laws.Pools.{live-in}
-use Rattle.rules.proofs.laws.Working.{view, Working}
+use Rattle.rules.proofs.laws.Working.{view, Working, total-ring}
+use Rattle.rules.proofs.laws.Soundness.{ring-at}
+use Rattle.rules.proofs.laws.Totals.{sum-ext}
 use Rattle.rules.proofs.laws.Sides
 use Rattle.rules.proofs.laws.Safe.{working, looked, found-live}
 use Rattle.rules.proofs.laws.Keys.{in-of, in-to, once-to}
@@ -27,6 +29,7 @@ use Rattle.rules.proofs.laws.Rep.{nextKey, LiveKey, Rep, rep-same, held
 use Rattle.rules.proofs.laws.Classes.{Run, first-run, run-size, one-class, own-run}
 use Rattle.rules.proofs.laws.Headers.{counts-sum}
 use Rattle.rules.proofs.laws.Seals.{Seals}
+use Rattle.rules.proofs.laws.Givens.{Givens, slots-sum}
 
 pub record Good (st : State) (h : History) : Type 0 where
   pub ready : Ready st
@@ -35,17 +38,19 @@ pub record Good (st : State) (h : History) : Type 0 where
   pub generation : st .head .generation ≡ h .generation
   -- the marks are the history's
   pub seals : Seals (view st) (h .sealed)
+  -- and so are the sizes
+  pub sizes : Givens (view st) (h .sizes)
   -- the frames are those put in, less those taken out
   pub counts : frames h + h .taken ≡ h .put
 
 -- the same history, written in another way
 pub good-same : {st : State} {h : History} (rs : List (List Key)) → Same (h .runs) rs → Good st h → Good st (withRuns h rs)
-good-same {st} {h} rs s G = record { ready = G .ready; rings = rep-same (view st) s (G .rings); generation = G .generation; seals = G .seals; counts = ap (λ (n : ℕ). n + h .taken) (sym (same-length s)) ∙ G .counts }
+good-same {st} {h} rs s G = record { ready = G .ready; rings = rep-same (view st) s (G .rings); generation = G .generation; seals = G .seals; sizes = G .sizes; counts = ap (λ (n : ℕ). n + h .taken) (sym (same-length s)) ∙ G .counts }
 
--- which keys are sealed, what is taken out, and the generation, told in another way
-pub good-told : {st : State} {rs : List (List Key)} {sealed sealed′ : List Key} {put taken taken′ generation generation′ : ℕ} → sealed ≡ sealed′ → taken ≡ taken′ → generation ≡ generation′
-    → Good st (record { runs = rs; sealed = sealed; put = put; taken = taken; generation = generation }) → Good st (record { runs = rs; sealed = sealed′; put = put; taken = taken′; generation = generation′ })
-good-told {st} {rs} {put = put} d e f G = subst (λ (h : History). Good st h) (λ i. record { runs = rs; sealed = d i; put = put; taken = e i; generation = f i }) G
+-- which keys are sealed, the sizes, what is taken out, and the generation, told in another way
+pub good-told : {st : State} {rs : List (List Key)} {sealed sealed′ : List Key} {sizes sizes′ : List Given} {put taken taken′ generation generation′ : ℕ} → sealed ≡ sealed′ → sizes ≡ sizes′ → taken ≡ taken′ → generation ≡ generation′
+    → Good st (record { runs = rs; sealed = sealed; sizes = sizes; put = put; taken = taken; generation = generation }) → Good st (record { runs = rs; sealed = sealed′; sizes = sizes′; put = put; taken = taken′; generation = generation′ })
+good-told {st} {rs} {put = put} d z e f G = subst (λ (h : History). Good st h) (λ i. record { runs = rs; sealed = d i; sizes = z i; put = put; taken = e i; generation = f i }) G
 
 -- a live key, as the book says it and as the laws do
 module _ (st : State) where
@@ -79,6 +84,7 @@ module _ (st : State) (h : History) (G : Good st h) where
     returns = λ k l. returns k (live-of st k l);
     before = λ k l. before k (live-of st k l);
     marks = λ k l. G .seals .marked k (live-of st k l);
+    totals = λ k l. totals k (live-of st k l);
     counts = rw (counts-sum (view st) W (h .runs) (G .rings)) (G .counts);
   }
     where
@@ -96,6 +102,15 @@ module _ (st : State) (h : History) (G : Good st h) where
 
       meets : (k : Key) → LiveKey (view st) k → along (Demand.nextKey st) (sizeAt st (k .slot)) k ≡ runOf k (h .runs)
       meets k l = subst (λ (n : ℕ). along (Demand.nextKey st) n k ≡ runOf k (h .runs)) (size-from k l) (walk-along (Demand.nextKey st) k k (runOf k (h .runs)) (refl, run-from k l .ring))
+
+      totals : (k : Key) → LiveKey (view st) k → totalOf (st .shared) (headerOf st k) ≡ sum (map (λ j. givenFor j (h .sizes)) (runOf k (h .runs)))
+      totals k l =
+          let n = sizeAt st (k .slot) in
+          let r = runOf k (h .runs) in
+          let b = view st .bytes in
+          total-ring (view st) W (headerOf st k) (k .slot) (ring-at (view st) W (k .slot) (l .live))
+          ∙ sym (slots-sum (view st) b n k) ∙ ap (λ (xs : List Key). sum (map (λ j. b (j .slot)) xs)) (meets k l)
+          ∙ sum-ext (λ j. b (j .slot)) (λ j. givenFor j (h .sizes)) r (all-map (λ j m. G .sizes .given j m) r (run-from k l .live))
 
       returns : (k : Key) → LiveKey (view st) k → steps (Demand.nextKey st) (sizeAt st (k .slot)) k ≡ k
       returns k l = subst (λ (n : ℕ). steps (Demand.nextKey st) n k ≡ k) (size-from k l) (walk-end (Demand.nextKey st) k k (runOf k (h .runs)) (refl, run-from k l .ring))

@@ -9,7 +9,7 @@ use Rattle.rules.specs.declared.Key.{Key}
 use Rattle.rules.specs.declared.Found.the-variants as lookup
 use Rattle.rules.specs.declared.Refusal.the-variants.{Shape}
 use Rattle.rules.specs.Notation.{if_then_else_, _==_, _<?_}
-use Rattle.rules.specs.Tables.{frameWidth, classOf, State, sizeAt, isSealed}
+use Rattle.rules.specs.Tables.{sized, frameWidth, classOf, State, sizeAt, isSealed}
 use Rattle.rules.specs.Refusals
 use Rattle.rules.specs.Refusals.{Ruling, refuse, accept, outcome, withLive}
 use Rattle.rules.specs.Reads
@@ -25,8 +25,9 @@ use Rattle.rules.specs.Slots
 use Rattle.rules.specs.Slots.{isFull}
 use Rattle.rules.specs.Compress
 use Rattle.rules.specs.Compress.{pairWidth}
-use Rattle.rules.specs.Calls.{Call, lenSurject, inSameSurject, getElement, getShared, lookup, setElement, setShared, check, newRun, insert, union, remove, removeShared, list, drain, seal, drainAll, clear, exchange, compress, compressWith, ruling, Ready, step, freshStep}
+use Rattle.rules.specs.Calls.{Call, lenSurject, inSameSurject, getElement, getShared, getSize, getTotal, lookup, setElement, setShared, check, newRun, insert, union, remove, removeShared, list, drain, seal, drainAll, clear, exchange, compress, compressWith, ruling, Ready, step, freshStep}
 use Rattle.rules.proofs.laws.Lists.{all-map, all-image}
+use Rattle.rules.proofs.laws.Totals.{sized-most}
 use Rattle.rules.proofs.laws.Working.{view}
 use Rattle.rules.proofs.laws.Safe.{working}
 use Rattle.rules.proofs.laws.Stored.{room}
@@ -57,19 +58,21 @@ module _ (st : State) (R : Ready st) where
   on-live k rule h = by-key Keeps (λ r. tt) st k rule (λ l. h (live-at st k l))
 
   keeps : (lent : List ℕ) (c : Call) → Keeps (ruling st lent c)
-  unfolding Reads.lenSurject Reads.inSameSurject Reads.getElement Reads.getShared Reads.lookup Reads.setElement Reads.setShared Runs.newRun Runs.insert Runs.keeping Runs.union Runs.remove Drains.removeShared Drains.list Drains.drain Drains.drainAll Drains.clear Seals.seal Exchange.exchange Compress.compress Compress.compressWith
+  unfolding Reads.lenSurject Reads.inSameSurject Reads.getElement Reads.getShared Reads.getSize Reads.getTotal Reads.lookup Reads.setElement Reads.setShared Runs.newRun Runs.insert Runs.keeping Runs.union Runs.remove Drains.removeShared Drains.list Drains.drain Drains.drainAll Drains.clear Seals.seal Exchange.exchange Compress.compress Compress.compressWith
   keeps lent (lenSurject k) = on-live k _ (λ h. R)
   keeps lent (inSameSurject j k) = on-live j _ (λ h. on-live k _ (λ l. R))
   keeps lent (getElement k) = on-live k _ (λ h. R)
   keeps lent (lookup k) = on-live k _ (λ h. R)
   keeps lent (getShared k) = on-live k _ (λ h. R)
+  keeps lent (getSize k) = on-live k _ (λ h. R)
+  keeps lent (getTotal k) = on-live k _ (λ h. R)
   keeps lent (setElement k payload) = on-live k _ (λ h. setElement-keeps st R (k .slot) payload h)
   keeps lent (setShared k value) = on-live k _ (λ h. setShared-keeps st R (view st .class (k .slot)) value (working st R .class-live (k .slot) h))
   keeps lent check = R
-  keeps lent (newRun payload value) =
+  keeps lent (newRun payload value size) =
       either (isFull (st .head .shared)) _ _ (λ e. tt) (λ e.
-      either (isFull (st .head .elems)) _ _ (λ f. tt) (λ f. newRun-keeps st R payload value (room (working st R .elems) f) (room (working st R .shared) e)))
-  keeps lent (insert k payload) = on-live k _ (λ h. either (isSealed st (k .slot)) _ _ (λ s. tt) (λ s. either (isFull (st .head .elems)) _ _ (λ f. tt) (λ f. insert-keeps st R (k .slot) payload h (room (working st R .elems) f))))
+      either (isFull (st .head .elems)) _ _ (λ f. tt) (λ f. newRun-keeps st R payload value (sized size) (room (working st R .elems) f) (room (working st R .shared) e) (sized-most size)))
+  keeps lent (insert k payload size) = on-live k _ (λ h. either (isSealed st (k .slot)) _ _ (λ s. tt) (λ s. either (isFull (st .head .elems)) _ _ (λ f. tt) (λ f. insert-keeps st R (k .slot) payload (sized size) h (room (working st R .elems) f) (sized-most size))))
   keeps lent (union j k) =
       let x = j .slot in
       let y = k .slot in

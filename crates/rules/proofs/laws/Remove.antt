@@ -2,7 +2,7 @@
 use mathlib.Core.Path.{_≡_, refl, sym, ap, _∙_}
 use mathlib.Core.Logic.{_≢_, inl, inr}
 use mathlib.Core.List.{List, [], _∷_}
-use Prim.Native.Nat.{ℕ, suc, _-_, _≤_}
+use Prim.Native.Nat.{ℕ, suc, _+_, _-_, _≤_}
 use native.Mathlib.Omega.{arith}
 use native.Mathlib.Decide.{ℕ-discrete}
 use lib.ListN.{length}
@@ -14,7 +14,8 @@ use Rattle.rules.specs.Calls.{Ready}
 use Rattle.rules.proofs.laws.Lists.{In}
 use Rattle.rules.proofs.laws.Columns.{upd, upd-same, upd-other, cols}
 use Rattle.rules.proofs.laws.Pools.{free, eqb-true, eqb-false}
-use Rattle.rules.proofs.laws.Working.{View, view, view-path, Ring, Working, turn, prev-class}
+use Rattle.rules.proofs.laws.Totals.{sizes-take}
+use Rattle.rules.proofs.laws.Working.{View, view, view-path, Ring, Working, turn, total-ring, live-inside, prev-class}
 use Rattle.rules.proofs.laws.Soundness.{shaped-of}
 use Rattle.rules.proofs.laws.Safe.{working}
 use Rattle.rules.proofs.laws.Stored.{Stored, Still, still-then, ready-still, live-stored}
@@ -32,10 +33,12 @@ removeV v x k w z m r = record {
   class = upd (v .class) x 0;
   prev = upd (upd (v .prev) (v .next x) (v .prev x)) x 0;
   next = upd (upd (v .next) (v .prev x) (v .next x)) x (v .head .elems .root);
+  bytes = upd (v .bytes) x 0;
   count = k;
   value = w;
   chain = z;
   mark = m;
+  total = upd (v .total) (v .class x) (v .total (v .class x) - v .bytes x);
 }
 
 module _ (v : View) (x : ℕ) (k w z m : ℕ → ℕ) (r : Pool) (S : Working v) (hx : v .gen x ≢ 0) (C : Counted v x k w z m r) where
@@ -66,7 +69,7 @@ module _ (v : View) (x : ℕ) (k w z m : ℕ → ℕ) (r : Pool) (S : Working v)
       go (y ∷ ys) q i = omega arith
 
   pub remove-sound : Working (removeV v x k w z m r)
-  unfolding removeV
+  unfolding removeV freed
   remove-sound = record {
     least = raised-least (v .head .generation);
     most = raised-most (v .head .generation) (S .most);
@@ -78,6 +81,7 @@ module _ (v : View) (x : ℕ) (k w z m : ℕ → ℕ) (r : Pool) (S : Working v)
     value-zero = C .value-zero;
     chain-zero = C .chain-zero;
     marks = C .marks;
+    sizes = let i = live-inside v S x hx in sizes-take (S .sizes) x (i .0) (i .1);
     links = links-remove excised (S .links);
     class-live = λ s h. class-live s h (ℕ-discrete (v .class s) (v .class x));
     ring = λ c. ring c (ℕ-discrete c (v .class x));
@@ -123,8 +127,8 @@ removed-still st x =
     let e = linked (st .elems) (view st .prev x) (view st .next x) in
     let out : Still st (withElems st e) = record { elems = refl; shared = refl; elems-long = length-linked (st .elems) (view st .prev x) (view st .next x); shared-long = refl } in
     let free = still-then out (freeElement-still (withElems st e) x) in
-    let gone = still-then free (left-still (freeElement (withElems st e) x) (view st .class x)) in
-    still-then gone (raise-still (left (freeElement (withElems st e) x) (view st .class x)))
+    let gone = still-then free (left-still (freeElement (withElems st e) x) (view st .class x) (view st .bytes x)) in
+    still-then gone (raise-still (left (freeElement (withElems st e) x) (view st .class x) (view st .bytes x)))
 
 module _ (st : State) (R : Ready st) (x : ℕ) (hx : view st .gen x ≢ 0) where
   abbrev class : ℕ
@@ -147,15 +151,24 @@ module _ (st : State) (R : Ready st) (x : ℕ) (hx : view st .gen x ≢ 0) where
   removed-on many =
       let stored = near in
       rw (eqb-false (view st .count class) 1 many)
-      (view-path _ _ refl (search cols) (search cols) (search cols) (search cols) (search cols) (search cols) (search cols) (search cols) (search cols))
+      (view-path _ _ refl (search cols) (search cols) (search cols) (search cols) (search cols) (search cols) (search cols) (search cols) (search cols) (search cols) (search cols))
+
+  -- the last frame has all of its run's bytes
+  last-total : view st .count class ≡ 1 → view st .total class - view st .bytes x ≡ 0
+  last-total one =
+      let W = working st R in
+      let q = total-ring (view st) W class x (turn (W .ring class (W .class-live x hx) .1) (record { live = hx; mine = refl })) in
+      let z : view st .total class ≡ view st .bytes x + 0 = rw one at q in
+      omega (arith, z)
 
   pub removed-last : view st .count class ≡ 1
       → view (removed st x) ≡ removeV (view st) x (upd (view st .count) class 0) (upd (view st .value) class 0) (upd (view st .chain) class (st .head .shared .root)) (upd (view st .mark) class 0) (freed (st .head .shared) class)
   unfolding removed raise left freeElement freeShared unlinked linked freeSlot removeV
   removed-last one =
       let stored = near in
-      rw (eqb-true (view st .count class) 1 one)
-      (view-path _ _ refl (search cols) (search cols) (search cols) (search cols) (search cols) (search cols) (search cols) (search cols) (search cols))
+      let none : upd (view st .total) class (view st .total class - view st .bytes x) ≡ upd (view st .total) class 0 = ap (λ (z : ℕ). upd (view st .total) class z) (last-total one) in
+      rw (eqb-true (view st .count class) 1 one, none)
+      (view-path _ _ refl (search cols) (search cols) (search cols) (search cols) (search cols) (search cols) (search cols) (search cols) (search cols) (search cols) (search cols))
 
   pub remove-keeps : Ready (removed st x)
   remove-keeps = ready-still R (removed-still st x) (go (ℕ-discrete (view st .count class) 1))

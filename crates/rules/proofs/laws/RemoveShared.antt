@@ -9,16 +9,18 @@ use Rattle.rules.specs.Tables.{lastGeneration, classOf, State, sizeAt}
 use Rattle.rules.specs.Slots.{freed, freeShared, raised, raise}
 use Rattle.rules.specs.Drains.{freeRing}
 use Rattle.rules.specs.Calls.{Ready}
-use Rattle.rules.proofs.laws.Lists.{In, Out, all-map, out-by, in-dec, out-of}
+use Rattle.rules.proofs.laws.Lists.{In, Out, all-map, all-at, out-by, in-dec, out-of}
 use Rattle.rules.proofs.laws.Columns.{upd, upd-same, upd-other}
 use Rattle.rules.proofs.laws.Pools.{free}
 use Rattle.rules.proofs.laws.Marked.{marked-zero}
+use Rattle.rules.proofs.laws.Totals.{Dropped, gone, sizes-drop}
+use Rattle.rules.proofs.laws.Totals
 use Rattle.rules.proofs.laws.Working.{View, view, Frame, Ring, Working, next-class, prev-class}
 use Rattle.rules.proofs.laws.Soundness.{shaped-of, ring-at}
 use Rattle.rules.proofs.laws.Safe.{working}
 use Rattle.rules.proofs.laws.Stored.{Still, still-then, ready-still, live-stored}
 use Rattle.rules.proofs.laws.Links.{live-ne, ring-frame}
-use Rattle.rules.proofs.laws.Wiped.{wipe, thread, freedAll, wipe-out, wipe-zero, wipe-in, thread-out, pool-all, freeRing-still, freeAllV, freeRing-view}
+use Rattle.rules.proofs.laws.Wiped.{wipe, thread, freedAll, wipe-out, wipe-zero, wipe-in, freedAll-capacity, thread-out, pool-all, freeRing-still, freeAllV, freeRing-view}
 use Rattle.rules.proofs.laws.Freed.{raiseV, raised-least, raised-most, freeShared-still, raise-still, freeSharedV, freeShared-view}
 
 unfoldable pub removeSharedV : View → ℕ → List ℕ → View
@@ -29,10 +31,12 @@ removeSharedV v c xs = record {
   class = wipe xs (v .class);
   prev = wipe xs (v .prev);
   next = thread xs (v .head .elems .root) (v .next);
+  bytes = wipe xs (v .bytes);
   count = upd (v .count) c 0;
   value = upd (v .value) c 0;
   chain = upd (v .chain) c (v .head .shared .root);
   mark = upd (v .mark) c 0;
+  total = upd (v .total) c 0;
 }
 
 module _ (v : View) (c x : ℕ) (S : Working v) (hc : v .count c ≢ 0) (r : Ring (v .gen) (v .class) (v .next) c x (v .count c)) where
@@ -51,6 +55,7 @@ module _ (v : View) (c x : ℕ) (S : Working v) (hc : v .count c ≢ 0) (r : Rin
     value-zero = λ d. value-zero d (ℕ-discrete d c);
     chain-zero = λ d. chain-zero d (ℕ-discrete d c);
     marks = marked-zero (v .mark) (v .count) (S .marks) c 0;
+    sizes = rw (freedAll-capacity xs (v .head .elems)) (sizes-drop (S .sizes) c (wipe xs (v .gen)) (wipe xs (v .class)) (wipe xs (v .bytes)) (λ s. dropped s (in-dec ℕ-discrete s xs)));
     links = record {
       next-live = λ s h. let k = kept s h in rw (thread-out xs (v .head .elems .root) (v .next) s (k .out)) (stays (v .next s) (S .links .next-live s (k .live)) (k .next-out));
       prev-live = λ s h. let k = kept s h in rw (wipe-out xs (v .prev) s (k .out)) (stays (v .prev s) (S .links .prev-live s (k .live)) (k .prev-out));
@@ -61,6 +66,10 @@ module _ (v : View) (c x : ℕ) (S : Working v) (hc : v .count c ≢ 0) (r : Rin
     ring = λ d. ring d (ℕ-discrete d c);
   }
     where
+      dropped : (s : ℕ) → Dec (In s xs) → Dropped c (v .gen) (v .class) (v .bytes) (wipe xs (v .gen)) (wipe xs (v .class)) (wipe xs (v .bytes)) s
+      dropped s (yes m) = gone (all-at (Frame (v .gen) (v .class) c) s xs (r .frames) m .mine) (wipe-in xs (v .bytes) s m)
+      dropped s (no m) = let o = out-of s xs m in Totals.stays (wipe-out xs (v .gen) s o) (wipe-out xs (v .class) s o) (wipe-out xs (v .bytes) s o) (λ l e. m (r .whole s (record { live = l; mine = e })))
+
       Kept : ℕ → Type 0
       Kept s = record { live : v .gen s ≢ 0; other : v .class s ≢ c; out : Out s xs; next-out : Out (v .next s) xs; prev-out : Out (v .prev s) xs }
 

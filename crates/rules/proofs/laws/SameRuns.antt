@@ -51,9 +51,11 @@ same-runs st st′ m N W W′ = record {
   next = λ s f. N .nexts s (frame-live st s f);
   previous = λ s f. N .prevs s (frame-live st s f);
   payload = λ s f. N .payloads s (frame-live st s f);
+  size = λ s f. N .sizes s (frame-live st s f);
   count = λ c h. N .counts c (header-live st c h);
   value = λ c h. N .values c (header-live st c h);
   mark = λ c h. N .marks c (header-live st c h);
+  total = λ c h. N .totals c (header-live st c h);
 }
 
 -- every renumbering by full listings, in tables of any capacities with room

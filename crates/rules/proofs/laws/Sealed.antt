@@ -20,10 +20,12 @@ sealV v c = record {
   class = v .class;
   prev = v .prev;
   next = v .next;
+  bytes = v .bytes;
   count = v .count;
   value = v .value;
   chain = v .chain;
   mark = upd (v .mark) c 1;
+  total = v .total;
 }
 
 pub seal-sound : (v : View) → Working v → (c : ℕ) → v .count c ≢ 0 → Working (sealV v c)
@@ -38,6 +40,7 @@ seal-sound v W c h = record {
   value-zero = W .value-zero;
   chain-zero = W .chain-zero;
   marks = marked-set (v .mark) (v .count) (W .marks) c h;
+  sizes = W .sizes;
   links = W .links;
   class-live = W .class-live;
   ring = W .ring;
@@ -48,7 +51,7 @@ module _ (st : State) (R : Ready st) (c : ℕ) (h : view st .count c ≢ 0) wher
   unfolding sealed sealV
   sealed-view =
       let s = live-stored (shaped-of st (R .shape) .shared) (working st R .shared) c h in
-      view-path _ _ refl refl refl refl refl refl (search cols) (search cols) (search cols) (search cols)
+      view-path _ _ refl refl refl refl refl refl refl (search cols) (search cols) (search cols) (search cols) (search cols)
 
   pub seal-keeps : Ready (sealed st c)
   unfolding sealed

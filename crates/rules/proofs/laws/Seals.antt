@@ -58,7 +58,7 @@ module _ (rs : List (List Key)) (ss : List Key) (k : Key) where
   pub still-of : In k (stillIn rs ss) → In k ss × In k (flat rs)
   still-of m = let t = keep-of (λ j. holds j (flat rs)) k ss m in (t .0, is-T (holds k (flat rs)) (holds-is k (flat rs)) (t .1))
 
-keep-keep : (p q : Key → Bool) → ((x : Key) → T (p x) → T (q x)) → (ss : List Key) → keep p (keep q ss) ≡ keep p ss
+pub keep-keep : {A : Type 0} (p q : A → Bool) → ((x : A) → T (p x) → T (q x)) → (ss : List A) → keep p (keep q ss) ≡ keep p ss
 keep-keep p q f [] = refl
 keep-keep p q f (s ∷ ss) = go (q s) (p s) (f s) refl (keep-keep p q f ss)
   where

@@ -46,9 +46,10 @@ pub record Fewer (v v′ : View) : Type 0 where
   pub gen : (s : ℕ) → v′ .gen s ≢ 0 → v′ .gen s ≡ v .gen s
   pub class : (s : ℕ) → v′ .gen s ≢ 0 → v′ .class s ≡ v .class s
   pub mark : (s : ℕ) → v′ .gen s ≢ 0 → v′ .mark (v .class s) ≡ v .mark (v .class s)
+  pub bytes : (s : ℕ) → v′ .gen s ≢ 0 → v′ .bytes s ≡ v .bytes s
 
 pub fewer-none : (v v′ : View) → ((s : ℕ) → v′ .gen s ≡ 0) → Fewer v v′
-fewer-none v v′ z = record { gen = λ s h. absurd (h (z s)); class = λ s h. absurd (h (z s)); mark = λ s h. absurd (h (z s)) }
+fewer-none v v′ z = record { gen = λ s h. absurd (h (z s)); class = λ s h. absurd (h (z s)); mark = λ s h. absurd (h (z s)); bytes = λ s h. absurd (h (z s)) }
 
 pub fewer-then : (u v w : View) → Fewer u v → Fewer v w → Fewer u w
 fewer-then u v w F E =
@@ -57,10 +58,11 @@ fewer-then u v w F E =
       gen = λ s h. E .gen s h ∙ F .gen s (on s h);
       class = λ s h. E .class s h ∙ F .class s (on s h);
       mark = λ s h. let e = F .class s (on s h) in ap (w .mark) (sym e) ∙ E .mark s h ∙ ap (v .mark) e ∙ F .mark s (on s h);
+      bytes = λ s h. E .bytes s h ∙ F .bytes s (on s h);
     }
 
-pub fewer-same : (v v′ : View) → v′ .gen ≡ v .gen → v′ .class ≡ v .class → v′ .mark ≡ v .mark → Fewer v v′
-fewer-same v v′ g c m = record { gen = λ s h. ap (λ (f : ℕ → ℕ). f s) g; class = λ s h. ap (λ (f : ℕ → ℕ). f s) c; mark = λ s h. ap (λ (f : ℕ → ℕ). f (v .class s)) m }
+pub fewer-same : (v v′ : View) → v′ .gen ≡ v .gen → v′ .class ≡ v .class → v′ .mark ≡ v .mark → v′ .bytes ≡ v .bytes → Fewer v v′
+fewer-same v v′ g c m b = record { gen = λ s h. ap (λ (f : ℕ → ℕ). f s) g; class = λ s h. ap (λ (f : ℕ → ℕ). f s) c; mark = λ s h. ap (λ (f : ℕ → ℕ). f (v .class s)) m; bytes = λ s h. ap (λ (f : ℕ → ℕ). f s) b }
 
 module _ (st : State) (R : Ready st) (x : ℕ) (hx : view st .gen x ≢ 0) where
   abbrev v : View
@@ -84,11 +86,13 @@ module _ (st : State) (R : Ready st) (x : ℕ) (hx : view st .gen x ≢ 0) where
         mark = λ s h.
             let l : v .gen s ≢ 0 = rw (upd-other (v .gen) x 0 s (apart s h)) at h in
             upd-other (v .mark) (v .class x) 0 (v .class s) (λ q. not-last v x _ _ _ _ _ W hx (last-one v x W hx e) s l (apart s h) q e);
+        bytes = λ s h. upd-other (v .bytes) x 0 s (apart s h);
       })
       go (no e) = rw (removed-on st R x hx e) (record {
         gen = λ s h. upd-other (v .gen) x 0 s (apart s h);
         class = λ s h. upd-other (v .class) x 0 s (apart s h);
         mark = λ s h. refl;
+        bytes = λ s h. upd-other (v .bytes) x 0 s (apart s h);
       })
 
   -- Rules 8
@@ -100,6 +104,7 @@ module _ (st : State) (R : Ready st) (x : ℕ) (hx : view st .gen x ≢ 0) where
     mark = λ s h.
         let l : v .gen s ≢ 0 = rw (wipe-out xs (v .gen) s (outside s h)) at h in
         upd-other (v .mark) (v .class x) 0 (v .class s) (λ e. h (wipe-in xs (v .gen) s (r .whole s (record { live = l; mine = e }))));
+    bytes = λ s h. wipe-out xs (v .bytes) s (outside s h);
   })
     where
       r : Ring (v .gen) (v .class) (v .next) (v .class x) x (v .count (v .class x))
@@ -114,7 +119,7 @@ module _ (st : State) (R : Ready st) (x : ℕ) (hx : view st .gen x ≢ 0) where
 -- Rules 10: as many frames as the ring has, or fewer
 pub drained-fewer : (n : ℕ) (st : State) → Ready st → (x : ℕ) → view st .gen x ≢ 0 → n ≤ sizeAt st x → Fewer (view st) (view (drained n st x))
 unfolding drained
-drained-fewer zero st R x h l = fewer-same (view st) (view st) refl refl refl
+drained-fewer zero st R x h l = fewer-same (view st) (view st) refl refl refl refl
 drained-fewer (suc zero) st R x h l = removed-fewer st R x h
 drained-fewer (suc (suc n)) st R x h l =
     let o = onward st R x h (omega arith) in
@@ -138,10 +143,10 @@ steady-same v v′ g c m = record {
 }
 
 -- Rules 4
-module _ (st : State) (R : Ready st) (payload value : ℕ) (room : Room (st .head .elems)) (room′ : Room (st .head .shared)) where
-  pub begun-steady : Steady (view st) (view (begun st payload value))
+module _ (st : State) (R : Ready st) (payload value size : ℕ) (room : Room (st .head .elems)) (room′ : Room (st .head .shared)) where
+  pub begun-steady : Steady (view st) (view (begun st payload value size))
   unfolding newRunV
-  begun-steady = rw (begun-view st R payload value room room′) (record {
+  begun-steady = rw (begun-view st R payload value size room room′) (record {
     stays = λ s h. upd-other (v .gen) i (st .head .generation) s (old s h);
     mark = λ s h. rw (upd-other (v .class) i c s (old s h)) (upd-other (v .mark) c 0 (v .class s) (other s h));
     new = λ s z h. new s (ℕ-discrete s i) z h;
@@ -175,10 +180,10 @@ module _ (st : State) (R : Ready st) (payload value : ℕ) (room : Room (st .hea
       joins s t h (no q) l e = (rw (upd-other (v .gen) i (st .head .generation) t q) at l, sym (upd-other (v .class) i c t q) ∙ e ∙ upd-other (v .class) i c s (old s h))
 
 -- Rules 5, at a run that is not sealed
-module _ (st : State) (R : Ready st) (x payload : ℕ) (hx : view st .gen x ≢ 0) (room : Room (st .head .elems)) (unsealed : markAt (view st) x ≡ 0) where
-  pub inserted-steady : Steady (view st) (view (inserted st x payload))
+module _ (st : State) (R : Ready st) (x payload size : ℕ) (hx : view st .gen x ≢ 0) (room : Room (st .head .elems)) (unsealed : markAt (view st) x ≡ 0) where
+  pub inserted-steady : Steady (view st) (view (inserted st x payload size))
   unfolding insertV
-  inserted-steady = rw (inserted-view st R x payload hx room) (record {
+  inserted-steady = rw (inserted-view st R x payload size hx room) (record {
     stays = λ s h. upd-other (v .gen) i (st .head .generation) s (old s h);
     mark = λ s h. ap (v .mark) (upd-other (v .class) i (v .class x) s (old s h));
     new = λ s z h. new s (ℕ-discrete s i) z h;

@@ -10,6 +10,7 @@ use Rattle.rules.specs.Runs.{rewritten, joined}
 use Rattle.rules.specs.Calls.{Ready}
 use Rattle.rules.proofs.laws.Columns.{upd, upd-same, upd-other, cols, length-put, length-row}
 use Rattle.rules.proofs.laws.Pools.{relink, keep, free}
+use Rattle.rules.proofs.laws.Totals.{sizes-join}
 use Rattle.rules.proofs.laws.Marked.{marked-count, marked-zero}
 use Rattle.rules.proofs.laws.Working.{View, view, view-path, Frame, Ring, Working, turn}
 use Rattle.rules.proofs.laws.Soundness.{shaped-of}
@@ -26,10 +27,12 @@ joinedV v a b = record {
   class = recolour (v .class b) (v .class a) (v .class);
   prev = upd (upd (v .prev) (v .next b) a) (v .next a) b;
   next = upd (upd (v .next) a (v .next b)) b (v .next a);
+  bytes = v .bytes;
   count = upd (upd (v .count) (v .class a) (v .count (v .class a) + v .count (v .class b))) (v .class b) 0;
   value = upd (v .value) (v .class b) 0;
   chain = upd (v .chain) (v .class b) (v .head .shared .root);
   mark = upd (v .mark) (v .class b) 0;
+  total = upd (upd (v .total) (v .class a) (v .total (v .class a) + v .total (v .class b))) (v .class b) 0;
 }
 
 module _ (v : View) (a b : ℕ) (S : Working v) (ha : v .gen a ≢ 0) (hb : v .gen b ≢ 0) (differ : v .class a ≢ v .class b) where
@@ -72,6 +75,7 @@ module _ (v : View) (a b : ℕ) (S : Working v) (ha : v .gen a ≢ 0) (hb : v .g
         free k (v .class b) l (joinedV v a b .chain) (upd-same (v .chain) (v .class b) (v .head .shared .root))
         (λ s e. upd-other (v .chain) (v .class b) (v .head .shared .root) s (λ r. live-ne (upd (v .count) (v .class a) both) l e (sym r)));
     gens = S .gens;
+    sizes = sizes-join (S .sizes) (v .class a) (v .class b) differ (joinedV v a b .class) class-b class-o;
     zeros = λ s h.
         let z = S .zeros s h in (
           z .0,
@@ -167,8 +171,8 @@ module _ (st : State) (R : Ready st) (a b : ℕ) (ha : view st .gen a ≢ 0) (hb
       let cb = live-stored (H .shared) (W .shared) (view st .class b) (W .class-live b hb) in
       view-path _ _ refl
       (x .gen ∙ r .gen) (x .pay ∙ r .pay) (x .class ∙ rewritten-class st R b (view st .class a) hb)
-      (x .prev ∙ ap (λ (f : ℕ → ℕ). upd (upd f (view st .next b) a) (view st .next a) b) (r .prev)) (x .next)
-      (search cols) (search cols) (search cols) (search cols)
+      (x .prev ∙ ap (λ (f : ℕ → ℕ). upd (upd f (view st .next b) a) (view st .next a) b) (r .prev)) (x .next) (x .bytes ∙ r .bytes)
+      (search cols) (search cols) (search cols) (search cols) (search cols)
 
   pub joined-keeps : view st .class a ≢ view st .class b → Ready (joined st a b)
   joined-keeps differ = ready-still R (joined-still st a b) (rw joined-view (joined-sound (view st) a b (working st R) ha hb differ))

@@ -50,6 +50,11 @@ pub thread-out : (xs : List ℕ) (r : ℕ) (n : ℕ → ℕ) (s : ℕ) → Out s
 thread-out [] r n s o = refl
 thread-out (x ∷ xs) r n s o = thread-out xs x (upd n x r) s (o .1) ∙ upd-other n x r s (o .0)
 
+pub freedAll-capacity : (xs : List ℕ) (p : Pool) → freedAll xs p .capacity ≡ p .capacity
+unfolding freed
+freedAll-capacity [] p = refl
+freedAll-capacity (x ∷ xs) p = freedAll-capacity xs (freed p x)
+
 -- all are freed
 pub pool-all : (xs : List ℕ) {p : Pool} {g n : ℕ → ℕ} → Pooled p g n → NoDup xs → All (λ s. g s ≢ 0) xs → Pooled (freedAll xs p) (wipe xs g) (thread xs (p .root) n)
 unfolding freed
@@ -74,10 +79,12 @@ freeAllV v xs = record {
   class = wipe xs (v .class);
   prev = wipe xs (v .prev);
   next = thread xs (v .head .elems .root) (v .next);
+  bytes = wipe xs (v .bytes);
   count = v .count;
   value = v .value;
   chain = v .chain;
   mark = v .mark;
+  total = v .total;
 }
 
 pub freeRing-view : (xs : List ℕ) (st : State) (x z : ℕ) → Walk (view st .next) x z xs → NoDup xs → All (Stored frameWidth (st .elems)) xs → view (freeRing (length xs) st x) ≡ freeAllV (view st) xs

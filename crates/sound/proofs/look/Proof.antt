@@ -50,6 +50,9 @@ mark-requires c κs = search needs
 get-requires-3 : tie.Need-get-requires-3
 get-requires-3 c κs = search needs
 
+get-requires-4 : tie.Need-get-requires-4
+get-requires-4 c κs = search needs
+
 ring-ok-requires : tie.Need-ring-ok-requires
 ring-ok-requires c κs = search needs
 
@@ -57,13 +60,13 @@ same-length-2 : tie.Need-same-length-2
 same-length-2 c = search needs
 
 returns-6 : tie.Need-returns-6
-returns-6 c = wrong-ring (stateOf (c .before .before .before .before .before .before .before .before .before .before .before .before .before .before .before .before .before .before .before .before .before .args .head) (c .before .before .before .before .before .before .before .before .before .before .before .before .before .before .before .before .before .before .before .before .before .args .e .now) (c .before .before .before .before .before .before .before .before .before .before .before .before .before .before .before .before .before .before .before .before .before .args .s .now)) (c .before .before .before .before .before .before .before .before .before .before .before .before .before .before .before .before .before .before .before .before .before .pre .0 .shape) _ (c .before .before .before .before .before .before .before .before .before .before .before .before .before .get2 .result) (λ z. c .before .before .before .before .before .before .before .before .before .before .before .before .before .before .if1 .left (c .before .before .before .before .before .before .before .before .before .before .before .before .before .before .before .get .ensures ∙ z)) (c .before .before .before .before .before .before .before .before .before .before .before .before .before .get2 .ensures) (c .before .before .get3 .result) (c .before .before .get3 .ensures) (if-no (c .before .ring-ok .result) (not-true _ (c .if6 .taken)) (c .before .ring-ok .ensures))
+returns-6 c = wrong-ring (stateOf (c .before .before .before .before .before .before .before .before .before .before .before .before .before .before .before .before .before .before .before .before .before .before .args .head) (c .before .before .before .before .before .before .before .before .before .before .before .before .before .before .before .before .before .before .before .before .before .before .args .e .now) (c .before .before .before .before .before .before .before .before .before .before .before .before .before .before .before .before .before .before .before .before .before .before .args .s .now)) (c .before .before .before .before .before .before .before .before .before .before .before .before .before .before .before .before .before .before .before .before .before .before .pre .0 .shape) _ (c .before .before .before .before .before .before .before .before .before .before .before .before .before .before .get2 .result) (λ z. c .before .before .before .before .before .before .before .before .before .before .before .before .before .before .before .if1 .left (c .before .before .before .before .before .before .before .before .before .before .before .before .before .before .before .before .get .ensures ∙ z)) (c .before .before .before .before .before .before .before .before .before .before .before .before .before .before .get2 .ensures) (c .before .before .before .get3 .result) (c .before .before .get4 .result) (c .before .before .before .get3 .ensures) (c .before .before .get4 .ensures) (if-no (c .before .ring-ok .result) (not-true _ (c .if6 .taken)) (c .before .ring-ok .ensures))
 
 same-length-3 : tie.Need-same-length-3
 same-length-3 c = search needs
 
 returns-7 : tie.Need-returns-7
-returns-7 c = first-at (stateOf (c .before .before .before .before .before .before .before .before .before .before .before .before .before .before .before .before .before .before .before .before .before .args .head) (c .before .before .before .before .before .before .before .before .before .before .before .before .before .before .before .before .before .before .before .before .before .args .e .now) (c .before .before .before .before .before .before .before .before .before .before .before .before .before .before .before .before .before .before .before .before .before .args .s .now)) (c .before .before .before .before .before .before .before .before .before .before .before .before .before .before .before .before .before .before .before .before .before .pre .0 .shape) _ (c .before .before .before .before .before .before .before .before .before .before .before .before .before .get2 .result) (λ z. c .before .before .before .before .before .before .before .before .before .before .before .before .before .before .if1 .left (c .before .before .before .before .before .before .before .before .before .before .before .before .before .before .before .get .ensures ∙ z)) (c .before .before .before .before .before .before .before .before .before .before .before .before .before .get2 .ensures) (c .before .before .get3 .result) _ _ (record { low = omega (arith, c .before .before .before .before .before .before .before .before .before .before .before .before .if3 .left); high = omega (arith, c .before .before .before .before .before .before .before .before .before .before .if4 .left) }) (c .before .before .before .before .before .before .before .before .is-marked .ensures ∙ c .before .before .before .before .before .before .before .if5 .left) (c .before .before .get3 .ensures) (if-yes (c .before .ring-ok .result) (not-false _ (c .if6 .left)) (c .before .ring-ok .ensures)) (c .before .before .before .before .before .mark .ensures)
+returns-7 c = first-at (stateOf (c .before .before .before .before .before .before .before .before .before .before .before .before .before .before .before .before .before .before .before .before .before .before .args .head) (c .before .before .before .before .before .before .before .before .before .before .before .before .before .before .before .before .before .before .before .before .before .before .args .e .now) (c .before .before .before .before .before .before .before .before .before .before .before .before .before .before .before .before .before .before .before .before .before .before .args .s .now)) (c .before .before .before .before .before .before .before .before .before .before .before .before .before .before .before .before .before .before .before .before .before .before .pre .0 .shape) _ (c .before .before .before .before .before .before .before .before .before .before .before .before .before .before .get2 .result) (λ z. c .before .before .before .before .before .before .before .before .before .before .before .before .before .before .before .if1 .left (c .before .before .before .before .before .before .before .before .before .before .before .before .before .before .before .before .get .ensures ∙ z)) (c .before .before .before .before .before .before .before .before .before .before .before .before .before .before .get2 .ensures) (c .before .before .before .get3 .result) (c .before .before .get4 .result) _ _ (record { low = omega (arith, c .before .before .before .before .before .before .before .before .before .before .before .before .before .if3 .left); high = omega (arith, c .before .before .before .before .before .before .before .before .before .before .before .if4 .left) }) (c .before .before .before .before .before .before .before .before .before .is-marked .ensures ∙ c .before .before .before .before .before .before .before .before .if5 .left) (c .before .before .before .get3 .ensures) (c .before .before .get4 .ensures) (if-yes (c .before .ring-ok .result) (not-false _ (c .if6 .left)) (c .before .ring-ok .ensures)) (c .before .before .before .before .before .before .mark .ensures)
 
 pub look-spec : {M : Type 1} → statement M
 look-spec =
@@ -83,6 +86,7 @@ look-spec =
     sub-mark
     mark-requires
     get-requires-3
+    get-requires-4
     ring-ok-requires
     same-length-2
     returns-6

@@ -35,19 +35,26 @@ get-requires-4 c κs = search needs
 returns-6 : tie.Need-returns-6
 returns-6 c = λ p. c .if6 .taken (c .before .get4 .ensures ∙ ap (previousOf _) (c .before .before .before .before .get3 .ensures) ∙ p .back)
 
+get-requires-5 : tie.Need-get-requires-5
+get-requires-5 c κs = search needs
+
 returns-7 : tie.Need-returns-7
-returns-7 c =
-    let read = c .before .before .before .before .before .before .before .before .before .get .ensures in
-    let next = c .before .before .before .before .get3 .ensures in
-    let some = c .before .before .before .if4 .left in
-    let within = c .before .before .if5 .left in
+returns-7 c = λ p. let l = p .small in omega (arith, c .before .get5 .ensures, c .if7 .taken)
+
+returns-8 : tie.Need-returns-8
+returns-8 c =
+    let read = c .before .before .before .before .before .before .before .before .before .before .before .get .ensures in
+    let next = c .before .before .before .before .before .before .get3 .ensures in
+    let some = c .before .before .before .before .before .if4 .left in
+    let within = c .before .before .before .before .if5 .left in
     record {
-      inside = c .before .before .before .before .before .before .before .before .before .before .before .pre .1;
-      live = λ z. c .before .before .before .before .before .before .before .before .if1 .left (read ∙ z);
-      most = let high = c .before .before .before .before .before .before .before .if2 .left in omega arith;
-      mine = sym (c .before .before .before .before .before .before .get2 .ensures) ∙ c .before .before .before .before .before .if3 .left;
+      inside = c .before .before .before .before .before .before .before .before .before .before .before .before .before .pre .1;
+      live = λ z. c .before .before .before .before .before .before .before .before .before .before .if1 .left (read ∙ z);
+      most = let high = c .before .before .before .before .before .before .before .before .before .if2 .left in omega arith;
+      mine = sym (c .before .before .before .before .before .before .before .before .get2 .ensures) ∙ c .before .before .before .before .before .before .before .if3 .left;
       onward = record { low = omega arith; high = omega arith };
-      back = sym (c .before .get4 .ensures ∙ ap (previousOf _) next) ∙ c .if6 .left;
+      back = sym (c .before .before .before .get4 .ensures ∙ ap (previousOf _) next) ∙ c .before .before .if6 .left;
+      small = omega (arith, c .before .get5 .ensures, c .if7 .left);
     }
 
 pub frame-ok-spec : {M : Type 1} → statement M
@@ -64,4 +71,6 @@ frame-ok-spec =
     returns-5
     get-requires-4
     returns-6
-    returns-7)
+    get-requires-5
+    returns-7
+    returns-8)

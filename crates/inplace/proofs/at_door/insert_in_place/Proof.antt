@@ -20,7 +20,7 @@ abbrev asks : {M : Type 1} (𝓤 : URA M) → Asks 𝓤
 asks 𝓤 h es ss = emp 𝓤
 
 abbrev does : Does
-does h es ss k v h′ r es′ ss′ = AtDoor (stateOf h es ss) [] (insert k v) (leaves h′ es′ ss′ [] (saidInserted r))
+does h es ss k v z h′ r es′ ss′ = AtDoor (stateOf h es ss) [] (insert k v z) (leaves h′ es′ ss′ [] (saidInserted r))
 
 pub insert-in-place-spec : {M : Type 1} → statement M
 unfolding code.routine tablesOf

@@ -72,7 +72,7 @@ same-length-3 c = search needs
 returns : tie.Need-returns
 returns c =
     let st = stateOf (c .before .before .before .before .before .before .before .before .before .before .before .before .before .before .before .before .before .before .args .head) (c .before .before .before .before .before .before .before .before .before .before .before .before .before .before .before .before .before .before .args .elems .now) (c .before .before .before .before .before .before .before .before .before .before .before .before .before .before .before .before .before .before .args .shared .now) in
-    rw (c .before .before .before .before .before .before .before .before .before .before .before .before .line .given .1) (told st (c .before .before .before .before .before .before .before .before .before .before .before .before .before .before .before .before .before .before .pre .0) keyText (newRun (c .before .before .before .before .before .before .before .before .before .before .before .before .line .given .0 .0) (c .before .before .before .before .before .before .before .before .before .before .before .before .line .given .0 .1 .0)) (λ o. refl) refl _ _ _ _ (c .before .before .before .before .before .before .before .before .insert-surject .ensures) (c .before .before .tell-inserted .ensures) (omega arith))
+    rw (c .before .before .before .before .before .before .before .before .before .before .before .before .line .given .1) (told st (c .before .before .before .before .before .before .before .before .before .before .before .before .before .before .before .before .before .before .pre .0) keyText (newRun (c .before .before .before .before .before .before .before .before .before .before .before .before .line .given .0 .0) (c .before .before .before .before .before .before .before .before .before .before .before .before .line .given .0 .1 .0) (c .before .before .before .before .before .before .before .before .before .before .before .before .line .given .0 .1 .1 .0)) (λ o. refl) refl _ _ _ _ (c .before .before .before .before .before .before .before .before .insert-surject .ensures) (c .before .before .tell-inserted .ensures) (omega arith))
 
 same-length-4 : tie.Need-same-length-4
 same-length-4 c = search needs
@@ -86,7 +86,7 @@ same-length-6 c = search needs
 returns-2 : tie.Need-returns-2
 returns-2 c =
     let st = stateOf (c .before .before .before .before .before .before .before .before .before .before .before .before .before .before .before .before .before .before .args .head) (c .before .before .before .before .before .before .before .before .before .before .before .before .before .before .before .before .before .before .args .elems .now) (c .before .before .before .before .before .before .before .before .before .before .before .before .before .before .before .before .before .before .args .shared .now) in
-    rw (c .before .before .before .before .before .before .before .before .before .before .before .before .line2 .given .1) (told st (c .before .before .before .before .before .before .before .before .before .before .before .before .before .before .before .before .before .before .pre .0) keyText (insert (c .before .before .before .before .before .before .before .before .before .before .before .before .line2 .given .0 .0) (c .before .before .before .before .before .before .before .before .before .before .before .before .line2 .given .0 .1 .0)) (λ o. refl) refl _ _ _ _ (c .before .before .before .before .before .before .before .before .insert .ensures) (c .before .before .tell-inserted2 .ensures) (omega arith))
+    rw (c .before .before .before .before .before .before .before .before .before .before .before .before .line2 .given .1) (told st (c .before .before .before .before .before .before .before .before .before .before .before .before .before .before .before .before .before .before .pre .0) keyText (insert (c .before .before .before .before .before .before .before .before .before .before .before .before .line2 .given .0 .0) (c .before .before .before .before .before .before .before .before .before .before .before .before .line2 .given .0 .1 .0) (c .before .before .before .before .before .before .before .before .before .before .before .before .line2 .given .0 .1 .1 .0)) (λ o. refl) refl _ _ _ _ (c .before .before .before .before .before .before .before .before .insert .ensures) (c .before .before .tell-inserted2 .ensures) (omega arith))
 
 same-length-7 : tie.Need-same-length-7
 same-length-7 c = search needs

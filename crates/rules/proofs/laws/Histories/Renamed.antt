@@ -11,7 +11,7 @@ use Rattle.rules.specs.Notation.{flat}
 use Rattle.rules.specs.Tables.{State}
 use Rattle.rules.specs.Compress.{canonicalFrames, canonicalClasses, renumberedIn, renumbered, generationAfter}
 use Rattle.rules.specs.Calls.{compress}
-use Rattle.rules.specs.History.{History, ordered, renamed, renaming, byRun, accepted}
+use Rattle.rules.specs.History.{History, Given, givenFor, namedAnew, ordered, renamed, renaming, byRun, accepted}
 use Rattle.rules.proofs.laws.Lists.{All, In, all-map, all-at, all-image, all-parts, in-map, in-image}
 use Rattle.rules.proofs.laws.Working.{View, view, Working}
 use Rattle.rules.proofs.laws.Safe.{working}
@@ -21,6 +21,7 @@ use Rattle.rules.proofs.laws.Renumber.{Renaming, Renumbered}
 use Rattle.rules.proofs.laws.Rep.{keyAt, LiveKey, Rep, key-live}
 use Rattle.rules.proofs.laws.Steady.{markAt}
 use Rattle.rules.proofs.laws.Seals.{flag, flag-both, Seals}
+use Rattle.rules.proofs.laws.Givens.{Givens, given-renamed, given-live}
 use Rattle.rules.proofs.laws.Good.{Good}
 use Rattle.rules.proofs.laws.Histories.Renumber.{flat-image, rekeyed, rep-renumbered}
 use Rattle.rules.proofs.laws.Histories.Compress.{renamed-is}
@@ -61,6 +62,13 @@ module _ (v v′ : View) (m : Renaming) (N : Renumbered v v′ m) (W : Working v
           same : flag j ss ≡ flag (new j) (map new ss)
           same = flag-both j (new j) ss (map new ss) (in-map new j ss) back
 
+  pub givens-renumbered : (gs : List Given) → Givens v gs → Givens v′ (map (namedAnew new) gs)
+  givens-renumbered gs G = record {
+    live = all-image (namedAnew new) (λ g. LiveKey v′ (g .key)) gs (all-map (λ g l. record { live = N .out (g .key .slot) (l .live) .0; gen = refl }) gs (G .live));
+    given = λ k l. let t = named k l in subst (λ (x : Key). v′ .bytes (x .slot) ≡ givenFor x (map (namedAnew new) gs)) (t .2)
+        (N .sizes (t .0 .slot) (t .1 .live) ∙ G .given (t .0) (t .1) ∙ sym (given-renamed (LiveKey v) new new-one (t .0) (t .1) gs (G .live)));
+  }
+
 -- ---- two ways to name keys that agree on some of them
 pub all-live : (P : Key → Type 0) (f g : Key → Key) (ks : List Key) → ((k : Key) → P k → f k ≡ g k) → All P ks → map f ks ≡ map g ks
 all-live P f g [] e a = refl
@@ -89,6 +97,7 @@ module _ (st : State) (h : History) (G : Good st h) (fs cs : List ℕ) (E : List
         rings = subst (λ (q : List (List Key)). Rep v′ q) (map-live (LiveKey v) (rekeyed v v′ m N W) new (h .runs) told (G .rings .live)) (rep-renumbered v v′ m N W (h .runs) (G .rings));
         generation = ap (generationAfter reset) (G .generation);
         seals = subst (λ (ss : List Key). Seals v′ ss) (all-live (LiveKey v) (rekeyed v v′ m N W) new (h .sealed) told (G .seals .live)) (seals-renumbered v v′ m N W (h .sealed) (G .seals));
+        sizes = subst (λ (gs : List Given). Givens v′ gs) (given-live (LiveKey v) (rekeyed v v′ m N W) new (h .sizes) told (G .sizes .live)) (givens-renumbered v v′ m N W (h .sizes) (G .sizes));
         counts = omega (arith, ap length (flat-image new (h .runs)), length-map (flat (h .runs)) new, G .counts);
       }
 

@@ -18,6 +18,7 @@ use Rattle.rules.proofs.laws.Rep.{LiveKey}
 use Rattle.rules.proofs.laws.Classes.{Run, one-class, own-run}
 use Rattle.rules.proofs.laws.Steady.{markAt}
 use Rattle.rules.proofs.laws.Seals.{flag, flag-in, flag-same, Seals}
+use Rattle.rules.proofs.laws.Givens.{givens-same}
 use Rattle.rules.proofs.laws.Good.{Good, run-from}
 use Rattle.rules.proofs.laws.Histories.Gone.{rep-still}
 
@@ -58,5 +59,6 @@ module _ (st : State) (h : History) (G : Good st h) (k : Key) (l : LiveKey (view
         rings = rw e (rep-still (view st) (sealV (view st) c) (λ s. refl) (λ s. refl) (h .runs) (G .rings));
         generation = ap (λ (v : View). v .head .generation) e ∙ G .generation;
         seals = rw e (seals-run (view st) W k (othersOf k (h .runs)) (run-from st h G k l) (h .sealed) (G .seals));
+        sizes = rw e (givens-same (view st) (sealV (view st) c) refl refl (h .sizes) (G .sizes));
         counts = G .counts;
       }
