@@ -1,4 +1,4 @@
-/* Doorsedge: runs of frames in lent tables, with a shared value for each run.
+/* Doorsedge: runs of frames in lent tables, with a shared value and a total of bytes for each run.
 
    A port of `SurjectArena` of the Rust crate triple_arena 0.15.1 (MIT OR Apache-2.0), every function of it proved.
    Link with target/staticlib/libhost.a (`rt staticlib host`), or, where `./install` has laid it, with
@@ -24,6 +24,12 @@
    `seal` wrote, by their new keys after a compression. Reading, setting, removing and draining go on as before. The mark
    goes when the run's last frame goes, and with `clear` and `fresh`; a compression takes it along. There is no call that
    takes a seal back.
+
+   Sizes. A frame has a size in bytes, a uint32_t given with it, and a run's header the total of its frames' sizes. `insert`
+   adds to the total, `union` adds both, removals and drains subtract, and both compressions carry sizes and totals along;
+   setting a payload leaves the size. A total stays below 281,474,976,710,656 (65,536 frames of 4,294,967,295 bytes have less),
+   so nothing overflows and no call is refused for it. `get_size` and `get_total` read them. Neither places nor records hold
+   sizes: who needs a frame's size reads it before the frame goes.
 
    Refusals. Each entry returns 0 when it accepted, else the number of the refusal. A refused call changes nothing:
    head, tables, buffers and `out` stay as they were. The tests come in the order 1, 2, 3, 4, 12, 6, 5, 7, and each
@@ -74,6 +80,8 @@
      10  all frames of a class are in one ring
      11  every live shared slot has a ring, and its count is that ring's number of frames
      12  the mark of a live shared slot is 0 or 1 (of a free one it is 0, by line 6)
+     13  the size of a live element slot is at most 4,294,967,295
+     14  the total of a live shared slot is the sum of the sizes around its ring
    The definition is crates/rules/specs/Sound.antt, a field for each line.
 
    Numbers. Payloads and shared values are any uint64_t. Yes is 1 and no is 0. */
@@ -92,7 +100,7 @@ extern "C" {
 enum doorsedge_refusal {
     DOORSEDGE_OK = 0,
     DOORSEDGE_SHAPE = 1,      /* a capacity is not 1 to 65,536, or a table's length is not what its capacity asks */
-    DOORSEDGE_UNSOUND = 2,    /* the shape fits, but head and tables are not a sound state (Sound 1 to 12, above) */
+    DOORSEDGE_UNSOUND = 2,    /* the shape fits, but head and tables are not a sound state (Sound 1 to 14, above) */
     DOORSEDGE_DEAD = 3,       /* a key handed in is not live; the result says why, see doorsedge_cause */
     DOORSEDGE_SAME_CLASS = 4, /* two keys that must be of different runs are of one */
     DOORSEDGE_NO_ELEMENT = 5, /* no element slot up to the capacity is free */
@@ -115,8 +123,8 @@ enum doorsedge_cause {
 /* ---- Layout. Slots are numbered from 1; slot s of a table of width w begins at number (s - 1) * w. */
 
 #define DOORSEDGE_HEAD 9          /* numbers to a head */
-#define DOORSEDGE_FRAME 5         /* numbers to an element slot */
-#define DOORSEDGE_HEADER 4        /* numbers to a shared slot */
+#define DOORSEDGE_FRAME 6         /* numbers to an element slot */
+#define DOORSEDGE_HEADER 5        /* numbers to a shared slot */
 #define DOORSEDGE_PLACE 2         /* numbers to a place that `list` writes */
 #define DOORSEDGE_SEAL_PLACE 3    /* numbers to a place that `seal` writes */
 #define DOORSEDGE_RECORD 6        /* numbers to a record that `drain` and `drain_all` write */
@@ -124,6 +132,7 @@ enum doorsedge_cause {
 #define DOORSEDGE_MOST_SLOTS 65536
 #define DOORSEDGE_STACK 9216      /* bytes of stack that a call takes at most, memset's own not counted */
 #define DOORSEDGE_LAST_GENERATION UINT64_C(4294967295)
+#define DOORSEDGE_MOST_BYTES UINT64_C(4294967295) /* the greatest size of a frame */
 
 /* Lengths, in numbers, for capacities and counts of frames. */
 #define DOORSEDGE_ELEMS_LEN(capacity) ((size_t)(capacity) * DOORSEDGE_FRAME)
@@ -153,7 +162,8 @@ enum doorsedge_frame {
     DOORSEDGE_FRAME_PAYLOAD = 1,
     DOORSEDGE_FRAME_CLASS = 2, /* the run's shared slot */
     DOORSEDGE_FRAME_PREVIOUS = 3,
-    DOORSEDGE_FRAME_NEXT = 4
+    DOORSEDGE_FRAME_NEXT = 4,
+    DOORSEDGE_FRAME_SIZE = 5 /* in bytes, at most DOORSEDGE_MOST_BYTES */
 };
 
 /* A shared slot's numbers. */
@@ -161,7 +171,8 @@ enum doorsedge_header {
     DOORSEDGE_HEADER_COUNT = 0, /* frames of the run, 0 when free */
     DOORSEDGE_HEADER_VALUE = 1, /* 0 when free */
     DOORSEDGE_HEADER_NEXT_FREE = 2,
-    DOORSEDGE_HEADER_MARK = 3 /* 1 if the run is sealed, else 0; 0 when free */
+    DOORSEDGE_HEADER_MARK = 3, /* 1 if the run is sealed, else 0; 0 when free */
+    DOORSEDGE_HEADER_TOTAL = 4 /* the sizes of the run's frames, summed; 0 when free */
 };
 
 /* A place that `list` writes: the key of a frame. */
@@ -235,6 +246,18 @@ uint64_t doorsedge_get_shared(const uint64_t head[DOORSEDGE_HEAD], const uint64_
                               const uint64_t *shared, size_t shared_len, uint64_t slot, uint64_t generation,
                               uint64_t out[1]);
 
+/* out: the frame's size in bytes.
+   Refusals: 1, 2, 3. */
+uint64_t doorsedge_get_size(const uint64_t head[DOORSEDGE_HEAD], const uint64_t *elems, size_t elems_len,
+                            const uint64_t *shared, size_t shared_len, uint64_t slot, uint64_t generation,
+                            uint64_t out[1]);
+
+/* out: the total of the key's run: the sizes of its frames, summed.
+   Refusals: 1, 2, 3. */
+uint64_t doorsedge_get_total(const uint64_t head[DOORSEDGE_HEAD], const uint64_t *elems, size_t elems_len,
+                             const uint64_t *shared, size_t shared_len, uint64_t slot, uint64_t generation,
+                             uint64_t out[1]);
+
 /* Writes the keys of the key's run into `places`, in ring order from the key: DOORSEDGE_PLACE numbers a frame.
    Numbers past those written stay as they were.
    out: how many frames were written.
@@ -243,7 +266,7 @@ uint64_t doorsedge_list(const uint64_t head[DOORSEDGE_HEAD], const uint64_t *ele
                         const uint64_t *shared, size_t shared_len, uint64_t slot, uint64_t generation,
                         uint64_t *places, size_t places_len, uint64_t out[1]);
 
-/* ---- Sets: keys, rings and the head stay as they are. */
+/* ---- Sets: keys, rings, sizes, totals and the head stay as they are. */
 
 /* Stores a payload. out: the old one.
    Refusals: 1, 2, 3. */
@@ -277,19 +300,21 @@ uint64_t doorsedge_seal(const uint64_t head[DOORSEDGE_HEAD], const uint64_t *ele
 
 /* ---- Frames in and out */
 
-/* Begins a run: one frame with this payload, and this shared value.
+/* Begins a run: one frame with this payload and this size in bytes, and this shared value. The run's total is the size.
    out: the frame's key.
    Refusals: 1, 2, 6, 5. */
 uint64_t doorsedge_insert_surject(uint64_t head[DOORSEDGE_HEAD], uint64_t *elems, size_t elems_len, uint64_t *shared,
-                              size_t shared_len, uint64_t payload, uint64_t value, uint64_t out[2]);
+                              size_t shared_len, uint64_t payload, uint64_t value, uint32_t size, uint64_t out[2]);
 
-/* Puts a frame into the key's run, immediately after the key's frame.
+/* Puts a frame of this size in bytes into the key's run, immediately after the key's frame. The run's total grows by it.
    out: the new frame's key.
    Refusals: 1, 2, 3, 12 (the run is sealed), 5. */
 uint64_t doorsedge_insert(uint64_t head[DOORSEDGE_HEAD], uint64_t *elems, size_t elems_len, uint64_t *shared,
-                          size_t shared_len, uint64_t slot, uint64_t generation, uint64_t payload, uint64_t out[2]);
+                          size_t shared_len, uint64_t slot, uint64_t generation, uint64_t payload, uint32_t size,
+                          uint64_t out[2]);
 
-/* Joins two runs. The larger run's shared value is kept, or the first key's where they are equally large; keys stay live.
+/* Joins two runs. The larger run's shared value is kept, or the first key's where they are equally large, by their numbers of
+   frames and not by their bytes; the totals are added; keys stay live.
    out: the removed shared value, slot and generation of the key (of the two) whose value is kept, and how many frames
    changed their run.
    Refusals: 1, 2, 3, 4 (both keys of one run), 12 (one of the runs is sealed). */
@@ -297,7 +322,7 @@ uint64_t doorsedge_union(uint64_t head[DOORSEDGE_HEAD], uint64_t *elems, size_t 
                          size_t shared_len, uint64_t slot0, uint64_t generation0, uint64_t slot1, uint64_t generation1,
                          uint64_t out[4]);
 
-/* Removes a frame. The generation rises by one.
+/* Removes a frame. The run's total is less by its size. The generation rises by one.
    out: its payload; 1 if it was the run's last frame, else 0; the run's shared value if it was, else 0; and 1 if the
    generation overflowed (went from 4,294,967,295 to 1), else 0.
    Refusals: 1, 2, 3. */
@@ -344,8 +369,8 @@ uint64_t doorsedge_compress_canonical(uint64_t head[DOORSEDGE_HEAD], uint64_t *e
                                       size_t scratch_len, uint64_t out[1]);
 
 /* Moves all frames down and keeps their order: the frames, in the order of their slots, to slots 1 and up, and the headers,
-   in the order of theirs, to shared slots 1 and up. Runs stay what they were: rings, payloads, shared values, counts and
-   marks. Every frame gets a new key, as by `compress_canonical`, and both keys of each are written into `pairs`,
+   in the order of theirs, to shared slots 1 and up. Runs stay what they were: rings, payloads, sizes, shared values, counts,
+   marks and totals. Every frame gets a new key, as by `compress_canonical`, and both keys of each are written into `pairs`,
    DOORSEDGE_PAIR numbers a frame, in the order of the slots. Numbers past those written stay as they were. No scratch is
    needed, and without frames no pairs are: (NULL, 0) will do then.
    out: how many pairs were written, which is how many frames there are; and 1 if the generation overflowed, else 0 (always 0
@@ -362,8 +387,8 @@ uint64_t doorsedge_compress_with(uint64_t head[DOORSEDGE_HEAD], uint64_t *elems,
        struct doorsedge_lent_head head;
        uint64_t *numbers = (uint64_t *)&head;
        doorsedge_fresh(numbers, FRAMES, RUNS, elems, elems_len, shared, shared_len);
-       doorsedge_insert_surject(numbers, elems, elems_len, shared, shared_len, payload, value, key);
-       doorsedge_insert_in_place(&head, elems, elems_len, shared, shared_len, key[0], key[1], payload, key); */
+       doorsedge_insert_surject(numbers, elems, elems_len, shared, shared_len, payload, value, size, key);
+       doorsedge_insert_in_place(&head, elems, elems_len, shared, shared_len, key[0], key[1], payload, size, key); */
 
 struct doorsedge_pool {
     uint64_t capacity, extent, root, live;
@@ -378,7 +403,7 @@ struct doorsedge_lent_head {
    Refusals: 1, 2, 3, 12, 5. */
 uint64_t doorsedge_insert_in_place(struct doorsedge_lent_head *head, uint64_t *elems, size_t elems_len,
                                    uint64_t *shared, size_t shared_len, uint64_t slot, uint64_t generation,
-                                   uint64_t payload, uint64_t out[2]);
+                                   uint64_t payload, uint32_t size, uint64_t out[2]);
 
 /* As `doorsedge_remove_element`.
    Refusals: 1, 2, 3. */

@@ -11,6 +11,7 @@
 #define ELEMS DOORSEDGE_ELEMS_LEN(FRAMES)
 #define SHARED DOORSEDGE_SHARED_LEN(RUNS)
 #define UNTOUCHED UINT64_C(77)
+#define MOST DOORSEDGE_MOST_BYTES
 
 static uint64_t head[DOORSEDGE_HEAD], elems[ELEMS], shared[SHARED], out[4], places[DOORSEDGE_LIST_LEN(FRAMES)],
     sealed[DOORSEDGE_SEAL_LEN(FRAMES)], records[DOORSEDGE_DRAIN_LEN(FRAMES)], scratch[DOORSEDGE_SCRATCH_LEN(FRAMES)],
@@ -43,15 +44,16 @@ static void fill(uint64_t *at, size_t count) {
         at[i] = UNTOUCHED;
 }
 
-/* Shared slot c holds this run's header: its count, value and mark, and 0 for next free. */
-static void header(int line, uint64_t c, uint64_t count, uint64_t value, uint64_t mark) {
+/* Shared slot c holds this run's header: its count, value, mark and total, and 0 for next free. */
+static void header(int line, uint64_t c, uint64_t count, uint64_t value, uint64_t mark, uint64_t total) {
     const uint64_t *at = shared + (c - 1) * DOORSEDGE_HEADER;
     is(line, "a run's count", at[DOORSEDGE_HEADER_COUNT], count);
     is(line, "a run's value", at[DOORSEDGE_HEADER_VALUE], value);
     is(line, "a run's next free", at[DOORSEDGE_HEADER_NEXT_FREE], 0);
     is(line, "a run's mark", at[DOORSEDGE_HEADER_MARK], mark);
+    is(line, "a run's total", at[DOORSEDGE_HEADER_TOTAL], total);
 }
-#define RUN(c, count, value, mark) header(__LINE__, c, count, value, mark)
+#define RUN(c, count, value, mark, total) header(__LINE__, c, count, value, mark, total)
 
 /* What a refused call may not change, kept before it. */
 static uint64_t kept[DOORSEDGE_HEAD + ELEMS + SHARED];
@@ -82,16 +84,16 @@ static void refused(int line, const char *what, uint64_t got, uint64_t want) {
 /* Refusal 3 with this cause, as an entry returns it. */
 #define DEAD(cause) (DOORSEDGE_DEAD + UINT64_C(256) * DOORSEDGE_##cause)
 
-/* Slots 1, 3, 2 in a ring under 100, and 4 under 200; one slot and two headers are free. */
+/* Slots 1, 3, 2 in a ring under 100, of 1, 4 and 2 bytes, and 4 under 200, of the most; one slot and two headers are free. */
 static void two_runs(void) {
     IS(doorsedge_fresh(head, FRAMES, RUNS, elems, ELEMS, shared, SHARED), DOORSEDGE_OK);
-    IS(doorsedge_insert_surject(STATE, 10, 100, out), DOORSEDGE_OK);
+    IS(doorsedge_insert_surject(STATE, 10, 100, 1, out), DOORSEDGE_OK);
     HOLDS(out, 1, 1);
-    IS(doorsedge_insert(STATE, 1, 1, 11, out), DOORSEDGE_OK);
+    IS(doorsedge_insert(STATE, 1, 1, 11, 2, out), DOORSEDGE_OK);
     HOLDS(out, 2, 1);
-    IS(doorsedge_insert(STATE, 1, 1, 12, out), DOORSEDGE_OK);
+    IS(doorsedge_insert(STATE, 1, 1, 12, 4, out), DOORSEDGE_OK);
     HOLDS(out, 3, 1);
-    IS(doorsedge_insert_surject(STATE, 20, 200, out), DOORSEDGE_OK);
+    IS(doorsedge_insert_surject(STATE, 20, 200, UINT32_MAX, out), DOORSEDGE_OK);
     HOLDS(out, 4, 1);
     fill(out, 4);
 }
@@ -133,14 +135,38 @@ static void reads(void) {
     HOLDS(places, 3, 1, 2, 1, 1, 1, UNTOUCHED);
 }
 
+/* What was given is read, a set payload leaves it, and what does not add up is unsound. */
+static void sizes(void) {
+    two_runs();
+    RUN(1, 3, 100, 0, 7);
+    RUN(2, 1, 200, 0, MOST);
+    IS(doorsedge_get_size(STATE, 3, 1, out), DOORSEDGE_OK);
+    HOLDS(out, 4, UNTOUCHED);
+    IS(doorsedge_get_total(STATE, 3, 1, out), DOORSEDGE_OK);
+    HOLDS(out, 7, UNTOUCHED);
+    IS(doorsedge_get_size(STATE, 4, 1, out), DOORSEDGE_OK);
+    HOLDS(out, MOST, UNTOUCHED);
+    REFUSED(doorsedge_get_size(STATE, 3, 2, out), DEAD(OTHER_GENERATION));
+    REFUSED(doorsedge_get_total(STATE, 5, 1, out), DEAD(NO_SLOT));
+    IS(doorsedge_set(STATE, 4, 1, 23, out), DOORSEDGE_OK);
+    IS(elems[3 * DOORSEDGE_FRAME + DOORSEDGE_FRAME_SIZE], MOST);
+    shared[DOORSEDGE_HEADER_TOTAL]--;
+    REFUSED(doorsedge_get_total(STATE, 1, 1, out), DOORSEDGE_UNSOUND);
+    shared[DOORSEDGE_HEADER_TOTAL]++;
+    IS(doorsedge_check(STATE), DOORSEDGE_OK);
+    elems[3 * DOORSEDGE_FRAME + DOORSEDGE_FRAME_SIZE]++; /* past a uint32_t, and the total with it */
+    shared[DOORSEDGE_HEADER + DOORSEDGE_HEADER_TOTAL]++;
+    REFUSED(doorsedge_get_size(STATE, 4, 1, out), DOORSEDGE_UNSOUND);
+}
+
 /* Slot 3 is free and slot 4 has been taken again: a key of each cause, and one that lives. */
 static void three_causes(void) {
     two_runs();
     IS(doorsedge_remove_element(STATE, 4, 1, out), DOORSEDGE_OK);
     IS(doorsedge_remove_element(STATE, 3, 1, out), DOORSEDGE_OK);
-    IS(doorsedge_insert(STATE, 1, 1, 13, out), DOORSEDGE_OK);
+    IS(doorsedge_insert(STATE, 1, 1, 13, 0, out), DOORSEDGE_OK);
     HOLDS(out, 3, 3);
-    IS(doorsedge_insert(STATE, 1, 1, 14, out), DOORSEDGE_OK);
+    IS(doorsedge_insert(STATE, 1, 1, 14, 0, out), DOORSEDGE_OK);
     HOLDS(out, 4, 3);
     IS(doorsedge_remove_element(STATE, 3, 3, out), DOORSEDGE_OK);
 }
@@ -211,13 +237,13 @@ static void exchange(void) {
     const uint64_t keys[8] = {3, 1, 1, 1, 4, 1, 2, 1}, twice[8] = {3, 1, 1, 1, 3, 1, 2, 1}, values[4] = {1, 2, 3, 4};
     IS(doorsedge_fresh(head, FRAMES, RUNS, elems, ELEMS, shared, SHARED), DOORSEDGE_OK);
     for (uint64_t n = 1; n <= 4; n++)
-        IS(doorsedge_insert_surject(STATE, n, 100 * n, out), DOORSEDGE_OK);
+        IS(doorsedge_insert_surject(STATE, n, 100 * n, (uint32_t)n, out), DOORSEDGE_OK);
     IS(doorsedge_exchange_shared4(STATE, keys, values, out), DOORSEDGE_OK);
     HOLDS(out, 300, 100, 400, 200);
-    RUN(1, 1, 2, 0);
-    RUN(2, 1, 4, 0);
-    RUN(3, 1, 1, 0);
-    RUN(4, 1, 3, 0);
+    RUN(1, 1, 2, 0, 1);
+    RUN(2, 1, 4, 0, 2);
+    RUN(3, 1, 1, 0, 3);
+    RUN(4, 1, 3, 0, 4);
     REFUSED(doorsedge_exchange_shared4(STATE, twice, values, out), DOORSEDGE_SAME_CLASS);
 }
 
@@ -233,20 +259,20 @@ static void seal(void) {
     IS(doorsedge_seal(STATE, 3, 1, sealed, DOORSEDGE_SEAL_LEN(FRAMES), out), DOORSEDGE_OK);
     HOLDS(out, 100, 3, UNTOUCHED);
     HOLDS(sealed, 3, 1, 12, 2, 1, 11, 1, 1, 10, UNTOUCHED);
-    RUN(1, 3, 100, 1);
-    RUN(2, 1, 200, 0);
+    RUN(1, 3, 100, 1, 7);
+    RUN(2, 1, 200, 0, MOST);
     REFUSED(doorsedge_seal(STATE, 1, 1, sealed, DOORSEDGE_SEAL_LEN(FRAMES), out), DOORSEDGE_SEALED);
     REFUSED(doorsedge_seal(STATE, 1, 1, NULL, 0, out), DOORSEDGE_SEALED);
-    REFUSED(doorsedge_insert(STATE, 1, 1, 13, out), DOORSEDGE_SEALED);
-    REFUSED(doorsedge_insert(STATE, 1, 2, 13, out), DEAD(OTHER_GENERATION));
-    REFUSED(doorsedge_insert_in_place((struct doorsedge_lent_head *)head, elems, ELEMS, shared, SHARED, 1, 1, 13, out),
+    REFUSED(doorsedge_insert(STATE, 1, 1, 13, 0, out), DOORSEDGE_SEALED);
+    REFUSED(doorsedge_insert(STATE, 1, 2, 13, 0, out), DEAD(OTHER_GENERATION));
+    REFUSED(doorsedge_insert_in_place((struct doorsedge_lent_head *)head, elems, ELEMS, shared, SHARED, 1, 1, 13, 0, out),
             DOORSEDGE_SEALED);
     REFUSED(doorsedge_union(STATE, 1, 1, 4, 1, out), DOORSEDGE_SEALED);
     REFUSED(doorsedge_union(STATE, 4, 1, 1, 1, out), DOORSEDGE_SEALED);
     REFUSED(doorsedge_union(STATE, 1, 1, 2, 1, out), DOORSEDGE_SAME_CLASS);
-    IS(doorsedge_insert(STATE, 4, 1, 21, out), DOORSEDGE_OK);
-    REFUSED(doorsedge_insert(STATE, 1, 1, 13, out), DOORSEDGE_SEALED);
-    REFUSED(doorsedge_insert(STATE, 4, 1, 22, out), DOORSEDGE_NO_ELEMENT);
+    IS(doorsedge_insert(STATE, 4, 1, 21, 0, out), DOORSEDGE_OK);
+    REFUSED(doorsedge_insert(STATE, 1, 1, 13, 0, out), DOORSEDGE_SEALED);
+    REFUSED(doorsedge_insert(STATE, 4, 1, 22, 0, out), DOORSEDGE_NO_ELEMENT);
     shared[DOORSEDGE_HEADER_MARK] = 2;
     REFUSED(doorsedge_check(STATE), DOORSEDGE_UNSOUND);
 }
@@ -258,47 +284,51 @@ static void after_seal(void) {
     IS(doorsedge_seal(STATE, 1, 1, sealed, DOORSEDGE_SEAL_LEN(FRAMES), out), DOORSEDGE_OK);
     IS(doorsedge_set(STATE, 4, 1, 23, out), DOORSEDGE_OK);
     IS(doorsedge_set_shared(STATE, 4, 1, 201, out), DOORSEDGE_OK);
-    RUN(1, 3, 100, 1);
-    RUN(2, 1, 201, 1);
+    RUN(1, 3, 100, 1, 7);
+    RUN(2, 1, 201, 1, MOST);
     IS(doorsedge_remove_element(STATE, 1, 1, out), DOORSEDGE_OK);
-    RUN(1, 2, 100, 1);
+    RUN(1, 2, 100, 1, 6);
     IS(doorsedge_compress_canonical(STATE, 0, scratch, DOORSEDGE_SCRATCH_LEN(FRAMES), out), DOORSEDGE_OK);
-    RUN(1, 2, 100, 1);
-    RUN(2, 1, 201, 1);
+    RUN(1, 2, 100, 1, 6);
+    RUN(2, 1, 201, 1, MOST);
     IS(doorsedge_drain(STATE, 2, 3, records, DOORSEDGE_DRAIN_LEN(FRAMES), out), DOORSEDGE_OK);
-    RUN(1, 0, 0, 0);
-    RUN(2, 1, 201, 1);
-    IS(doorsedge_insert_surject(STATE, 30, 300, out), DOORSEDGE_OK);
-    RUN(1, 1, 300, 0);
+    RUN(1, 0, 0, 0, 0);
+    RUN(2, 1, 201, 1, MOST);
+    IS(doorsedge_insert_surject(STATE, 30, 300, 9, out), DOORSEDGE_OK);
+    RUN(1, 1, 300, 0, 9);
     IS(doorsedge_clear(STATE, out), DOORSEDGE_OK);
-    RUN(1, 0, 0, 0);
-    RUN(2, 0, 0, 0);
+    RUN(1, 0, 0, 0, 0);
+    RUN(2, 0, 0, 0, 0);
 }
 
 static void frames_in(void) {
     two_runs();
-    REFUSED(doorsedge_insert(STATE, 4, 2, 21, out), DEAD(OTHER_GENERATION));
-    IS(doorsedge_insert(STATE, 4, 1, 21, out), DOORSEDGE_OK);
+    REFUSED(doorsedge_insert(STATE, 4, 2, 21, 16, out), DEAD(OTHER_GENERATION));
+    IS(doorsedge_insert(STATE, 4, 1, 21, 16, out), DOORSEDGE_OK);
     HOLDS(out, 5, 1, UNTOUCHED);
-    REFUSED(doorsedge_insert(STATE, 4, 1, 22, out), DOORSEDGE_NO_ELEMENT);
-    REFUSED(doorsedge_insert_surject(STATE, 30, 300, out), DOORSEDGE_NO_ELEMENT);
+    RUN(2, 2, 200, 0, MOST + 16);
+    REFUSED(doorsedge_insert(STATE, 4, 1, 22, 0, out), DOORSEDGE_NO_ELEMENT);
+    REFUSED(doorsedge_insert_surject(STATE, 30, 300, 0, out), DOORSEDGE_NO_ELEMENT);
     REFUSED(doorsedge_union(STATE, 4, 1, 5, 1, out), DOORSEDGE_SAME_CLASS);
     IS(doorsedge_union(STATE, 4, 1, 1, 1, out), DOORSEDGE_OK);
     HOLDS(out, 200, 1, 1, 2);
+    RUN(1, 5, 100, 0, MOST + 23);
+    RUN(2, 0, 0, 0, 0);
 }
 
 /* A run for each header: the fifth is refused for want of one, though a frame's slot is free. */
 static void no_shared(void) {
     IS(doorsedge_fresh(head, FRAMES, RUNS, elems, ELEMS, shared, SHARED), DOORSEDGE_OK);
     for (uint64_t n = 1; n <= RUNS; n++)
-        IS(doorsedge_insert_surject(STATE, n, 100 * n, out), DOORSEDGE_OK);
-    REFUSED(doorsedge_insert_surject(STATE, 5, 500, out), DOORSEDGE_NO_SHARED);
+        IS(doorsedge_insert_surject(STATE, n, 100 * n, 0, out), DOORSEDGE_OK);
+    REFUSED(doorsedge_insert_surject(STATE, 5, 500, 0, out), DOORSEDGE_NO_SHARED);
 }
 
 static void frames_out(void) {
     two_runs();
     IS(doorsedge_remove_element(STATE, 1, 1, out), DOORSEDGE_OK);
     HOLDS(out, 10, 0, 0, 0);
+    RUN(1, 2, 100, 0, 6);
     REFUSED(doorsedge_remove_element(STATE, 1, 1, out), DEAD(FREE_SLOT));
     head[DOORSEDGE_GENERATION] = DOORSEDGE_LAST_GENERATION;
     IS(doorsedge_remove_element(STATE, 4, 1, out), DOORSEDGE_OK);
@@ -337,7 +367,9 @@ static void clear_and_compress(void) {
     IS(doorsedge_compress_canonical(STATE, 0, scratch, DOORSEDGE_SCRATCH_LEN(FRAMES), out), DOORSEDGE_OK);
     HOLDS(out, 0, UNTOUCHED);
     HOLDS(scratch, 0);
-    HOLDS(elems, 3, 11, 1, 2, 2, 3, 12, 1, 1, 1, 3, 20, 2, 3, 3, 0);
+    HOLDS(elems, 3, 11, 1, 2, 2, 2, 3, 12, 1, 1, 1, 4, 3, 20, 2, 3, 3, MOST, 0);
+    RUN(1, 2, 100, 0, 6);
+    RUN(2, 1, 200, 0, MOST);
     HOLDS(head, FRAMES, 3, 0, 3, RUNS, 2, 0, 2, 3);
     IS(doorsedge_clear(STATE, out), DOORSEDGE_OK);
     HOLDS(out, 0, UNTOUCHED);
@@ -351,7 +383,7 @@ static void clear_and_compress(void) {
 static void compress_in_order(void) {
     two_runs();
     IS(doorsedge_seal(STATE, 4, 1, sealed, DOORSEDGE_SEAL_LEN(FRAMES), out), DOORSEDGE_OK);
-    IS(doorsedge_insert_surject(STATE, 30, 300, out), DOORSEDGE_OK);
+    IS(doorsedge_insert_surject(STATE, 30, 300, 9, out), DOORSEDGE_OK);
     HOLDS(out, 5, 1);
     IS(doorsedge_remove_shared(STATE, 1, 1, out), DOORSEDGE_OK);
     fill(pairs, DOORSEDGE_PAIRS_LEN(FRAMES));
@@ -366,10 +398,10 @@ static void compress_in_order(void) {
     IS(pairs[DOORSEDGE_PAIR + DOORSEDGE_PAIR_OLD_GENERATION], 1);
     IS(pairs[DOORSEDGE_PAIR + DOORSEDGE_PAIR_NEW_SLOT], 2);
     IS(pairs[DOORSEDGE_PAIR + DOORSEDGE_PAIR_NEW_GENERATION], 3);
-    HOLDS(elems, 3, 20, 1, 1, 1, 3, 30, 2, 2, 2, 0);
-    RUN(1, 1, 200, 1);
-    RUN(2, 1, 300, 0);
-    RUN(3, 0, 0, 0);
+    HOLDS(elems, 3, 20, 1, 1, 1, MOST, 3, 30, 2, 2, 2, 9, 0);
+    RUN(1, 1, 200, 1, MOST);
+    RUN(2, 1, 300, 0, 9);
+    RUN(3, 0, 0, 0, 0);
     HOLDS(head, FRAMES, 2, 0, 2, RUNS, 2, 0, 2, 3);
     head[DOORSEDGE_GENERATION] = DOORSEDGE_LAST_GENERATION;
     IS(doorsedge_compress_with(STATE, 0, pairs, DOORSEDGE_PAIRS_LEN(2), out), DOORSEDGE_OK);
@@ -384,10 +416,10 @@ static void compress_in_order(void) {
 static void both_compressions(void) {
     two_runs();
     IS(doorsedge_compress_canonical(STATE, 1, scratch, DOORSEDGE_SCRATCH_LEN(FRAMES), out), DOORSEDGE_OK);
-    HOLDS(elems, 1, 10, 1, 3, 2, 1, 12, 1, 1, 3, 1, 11, 1, 2, 1, 1, 20, 2, 4, 4, 0);
+    HOLDS(elems, 1, 10, 1, 3, 2, 1, 1, 12, 1, 1, 3, 4, 1, 11, 1, 2, 1, 2, 1, 20, 2, 4, 4, MOST, 0);
     two_runs();
     IS(doorsedge_compress_with(STATE, 1, pairs, DOORSEDGE_PAIRS_LEN(FRAMES), out), DOORSEDGE_OK);
-    HOLDS(elems, 1, 10, 1, 2, 3, 1, 11, 1, 3, 1, 1, 12, 1, 1, 2, 1, 20, 2, 4, 4, 0);
+    HOLDS(elems, 1, 10, 1, 2, 3, 1, 1, 11, 1, 3, 1, 2, 1, 12, 1, 1, 2, 4, 1, 20, 2, 4, 4, MOST, 0);
 }
 
 /* One head for both kinds of entry: the writer's own struct, and its numbers for the others. */
@@ -396,17 +428,19 @@ static void in_place(void) {
     uint64_t *numbers = (uint64_t *)&own;
     IS(sizeof own, DOORSEDGE_HEAD * sizeof(uint64_t));
     IS(doorsedge_fresh(numbers, FRAMES, RUNS, elems, ELEMS, shared, SHARED), DOORSEDGE_OK);
-    IS(doorsedge_insert_surject(numbers, elems, ELEMS, shared, SHARED, 10, 100, out), DOORSEDGE_OK);
+    IS(doorsedge_insert_surject(numbers, elems, ELEMS, shared, SHARED, 10, 100, 5, out), DOORSEDGE_OK);
     IS(own.elems.live, 1);
-    IS(doorsedge_insert_in_place(&own, elems, ELEMS, shared, SHARED, 1, 1, 11, out), DOORSEDGE_OK);
+    IS(doorsedge_insert_in_place(&own, elems, ELEMS, shared, SHARED, 1, 1, 11, 6, out), DOORSEDGE_OK);
     HOLDS(out, 2, 1);
+    RUN(1, 2, 100, 0, 11);
     IS(own.elems.extent, 2);
     IS(doorsedge_len_surject(numbers, elems, ELEMS, shared, SHARED, 2, 1, out), DOORSEDGE_OK);
     HOLDS(out, 2);
-    REFUSED(doorsedge_insert_in_place(&own, elems, ELEMS, shared, SHARED, 9, 1, 12, out), DEAD(NO_SLOT));
+    REFUSED(doorsedge_insert_in_place(&own, elems, ELEMS, shared, SHARED, 9, 1, 12, 0, out), DEAD(NO_SLOT));
     IS(doorsedge_remove_in_place(&own, elems, ELEMS, shared, SHARED, 1, 1, out), DOORSEDGE_OK);
     HOLDS(out, 10, 0, 0, 0);
     IS(own.generation, 2);
+    RUN(1, 1, 100, 0, 6);
     REFUSED(doorsedge_remove_in_place(&own, elems, ELEMS, shared, SHARED, 1, 1, out), DEAD(FREE_SLOT));
     IS(numbers[DOORSEDGE_GENERATION], own.generation);
 }
@@ -422,7 +456,7 @@ static void null_with_none(void) {
     REFUSED(doorsedge_check(head, elems, ELEMS, NULL, 0), DOORSEDGE_SHAPE);
     REFUSED(doorsedge_fresh(head, FRAMES, RUNS, NULL, 0, NULL, 0), DOORSEDGE_SHAPE);
     REFUSED(doorsedge_fresh(head, 0, 0, NULL, 0, NULL, 0), DOORSEDGE_SHAPE);
-    REFUSED(doorsedge_insert_surject(head, NULL, 0, NULL, 0, 1, 2, out), DOORSEDGE_SHAPE);
+    REFUSED(doorsedge_insert_surject(head, NULL, 0, NULL, 0, 1, 2, 0, out), DOORSEDGE_SHAPE);
     REFUSED(doorsedge_clear(head, NULL, 0, NULL, 0, out), DOORSEDGE_SHAPE);
     IS(doorsedge_fresh(head, FRAMES, RUNS, elems, ELEMS, shared, SHARED), DOORSEDGE_OK);
     fill(out, 4);
@@ -438,14 +472,14 @@ static void null_with_none(void) {
 static void old_keys(void) {
     two_runs();
     IS(doorsedge_remove_element(STATE, 4, 1, out), DOORSEDGE_OK);
-    IS(doorsedge_insert_surject(STATE, 21, 210, out), DOORSEDGE_OK);
+    IS(doorsedge_insert_surject(STATE, 21, 210, 0, out), DOORSEDGE_OK);
     HOLDS(out, 4, 2);
     REFUSED(doorsedge_get(STATE, 4, 1, out), DEAD(OTHER_GENERATION));
     head[DOORSEDGE_GENERATION] = DOORSEDGE_LAST_GENERATION;
     IS(doorsedge_remove_element(STATE, 4, 2, out), DOORSEDGE_OK);
     HOLDS(out, 21, 1, 210, 1);
     REFUSED(doorsedge_get(STATE, 4, 1, out), DEAD(FREE_SLOT));
-    IS(doorsedge_insert_surject(STATE, 22, 220, out), DOORSEDGE_OK);
+    IS(doorsedge_insert_surject(STATE, 22, 220, 0, out), DOORSEDGE_OK);
     IS(doorsedge_get(STATE, 4, 1, out), DOORSEDGE_OK);
     HOLDS(out, 22);
     head[DOORSEDGE_GENERATION] = 9;
@@ -462,7 +496,7 @@ static void old_keys(void) {
     IS(head[DOORSEDGE_GENERATION], 1);
     IS(doorsedge_fresh(head, FRAMES, RUNS, elems, ELEMS, shared, SHARED), DOORSEDGE_OK);
     REFUSED(doorsedge_get(STATE, 1, 1, out), DEAD(NO_SLOT));
-    IS(doorsedge_insert_surject(STATE, 30, 300, out), DOORSEDGE_OK);
+    IS(doorsedge_insert_surject(STATE, 30, 300, 0, out), DOORSEDGE_OK);
     IS(doorsedge_get(STATE, 1, 1, out), DOORSEDGE_OK);
     HOLDS(out, 30);
 }
@@ -471,15 +505,15 @@ static void old_keys(void) {
 static void key_over_overflow(void) {
     IS(doorsedge_fresh(head, FRAMES, RUNS, elems, ELEMS, shared, SHARED), DOORSEDGE_OK);
     head[DOORSEDGE_GENERATION] = DOORSEDGE_LAST_GENERATION;
-    IS(doorsedge_insert_surject(STATE, 10, 100, out), DOORSEDGE_OK);
-    IS(doorsedge_insert(STATE, 1, DOORSEDGE_LAST_GENERATION, 11, out), DOORSEDGE_OK);
+    IS(doorsedge_insert_surject(STATE, 10, 100, 0, out), DOORSEDGE_OK);
+    IS(doorsedge_insert(STATE, 1, DOORSEDGE_LAST_GENERATION, 11, 0, out), DOORSEDGE_OK);
     IS(doorsedge_remove_element(STATE, 2, DOORSEDGE_LAST_GENERATION, out), DOORSEDGE_OK);
     HOLDS(out, 11, 0, 0, 1);
     IS(doorsedge_remove_element(STATE, 1, DOORSEDGE_LAST_GENERATION, out), DOORSEDGE_OK);
     HOLDS(out, 10, 1, 100, 0);
     REFUSED(doorsedge_get(STATE, 1, DOORSEDGE_LAST_GENERATION, out), DEAD(FREE_SLOT));
     head[DOORSEDGE_GENERATION] = DOORSEDGE_LAST_GENERATION; /* so many removals later */
-    IS(doorsedge_insert_surject(STATE, 20, 200, out), DOORSEDGE_OK);
+    IS(doorsedge_insert_surject(STATE, 20, 200, 0, out), DOORSEDGE_OK);
     IS(doorsedge_get(STATE, 1, DOORSEDGE_LAST_GENERATION, out), DOORSEDGE_OK);
     HOLDS(out, 20);
 }
@@ -487,6 +521,7 @@ static void key_over_overflow(void) {
 int main(void) {
     fresh_and_check();
     reads();
+    sizes();
     lookup();
     first_dead_key();
     sets();

@@ -8,8 +8,9 @@
 #include <stdio.h>
 #include <stdlib.h>
 
-#define FRAMES 16 /* the most frames of a study */
-#define RUNS 4    /* the most runs */
+#define FRAMES 16    /* the most frames of a study */
+#define RUNS 4       /* the most runs */
+#define PICTURE 5000 /* bytes to a picture */
 
 typedef struct {
     uint64_t slot, generation;
@@ -29,14 +30,14 @@ static void must(const char *what, uint64_t result) {
 
 static key begin_run(uint64_t picture, uint64_t description) {
     uint64_t out[2];
-    must("new run", doorsedge_insert_surject(STATE, picture, description, out));
+    must("new run", doorsedge_insert_surject(STATE, picture, description, PICTURE, out));
     return (key){out[0], out[1]};
 }
 
 /* The writer: a picture comes after the last one. Where the run is sealed it begins another, under the same description. */
 static key write_frame(key last, uint64_t picture, uint64_t description) {
     uint64_t out[2];
-    uint64_t refusal = doorsedge_insert(STATE, last.slot, last.generation, picture, out);
+    uint64_t refusal = doorsedge_insert(STATE, last.slot, last.generation, picture, PICTURE, out);
     if (refusal == DOORSEDGE_SEALED) {
         printf("picture %" PRIu64 " comes too late: refused %" PRIu64 ", a run of its own\n", picture, refusal);
         return begin_run(picture, description);
@@ -48,14 +49,16 @@ static key write_frame(key last, uint64_t picture, uint64_t description) {
 
 /* The finalizer: one call, and what it has is the run. Where it was saved before it is not saved again. */
 static void save_run(key any) {
-    uint64_t places[DOORSEDGE_SEAL_LEN(FRAMES)], out[2];
+    uint64_t places[DOORSEDGE_SEAL_LEN(FRAMES)], out[2], bytes[1];
     uint64_t refusal = doorsedge_seal(STATE, any.slot, any.generation, places, DOORSEDGE_SEAL_LEN(FRAMES), out);
     if (refusal == DOORSEDGE_SEALED) {
         printf("saved already: refused %" PRIu64 "\n", refusal);
         return;
     }
     must("seal", refusal);
-    printf("saved: description %" PRIu64 ", %" PRIu64 " pictures:", out[0], out[1]);
+    /* nothing comes in any more, and nothing was removed since: the total is that of what was written */
+    must("total", doorsedge_get_total(STATE, any.slot, any.generation, bytes));
+    printf("saved: description %" PRIu64 ", %" PRIu64 " pictures, %" PRIu64 " bytes:", out[0], out[1], bytes[0]);
     for (uint64_t i = 0; i < out[1]; i++)
         printf(" %" PRIu64, places[i * DOORSEDGE_SEAL_PLACE + DOORSEDGE_SEAL_PLACE_PAYLOAD]);
     printf("\n");

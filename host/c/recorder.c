@@ -38,16 +38,21 @@ static void begin_study(study *s) {
     must("fresh", doorsedge_fresh(s->head, FRAMES, RUNS, TABLES(s)));
 }
 
+/* What a picture's file would say. */
+static uint32_t bytes_of(uint64_t picture) {
+    return 1000 + (uint32_t)picture;
+}
+
 static key begin_run(study *s, uint64_t picture, uint64_t description) {
     uint64_t out[2];
-    must("new run", doorsedge_insert_surject(s->head, TABLES(s), picture, description, out));
+    must("new run", doorsedge_insert_surject(s->head, TABLES(s), picture, description, bytes_of(picture), out));
     return (key){out[0], out[1]};
 }
 
 /* The frame after `last`. Running out of room is no fault of the recorder: the caller is told. */
 static int add_frame(study *s, key *last, uint64_t picture) {
     uint64_t out[2];
-    uint64_t refusal = doorsedge_insert(s->head, TABLES(s), last->slot, last->generation, picture, out);
+    uint64_t refusal = doorsedge_insert(s->head, TABLES(s), last->slot, last->generation, picture, bytes_of(picture), out);
     if (refusal == DOORSEDGE_NO_ELEMENT)
         return 0;
     must("insert", refusal);
@@ -84,12 +89,13 @@ static void tell(const study *s, const char *whose, key k) {
     printf("%s: %s\n", whose, why);
 }
 
-/* What a viewer shows of a run: its description and its pictures, from the given frame on. */
+/* What a viewer shows of a run: its description, how many bytes it has and its pictures, from the given frame on. */
 static void show_run(const study *s, key k) {
-    uint64_t places[DOORSEDGE_LIST_LEN(FRAMES)], count[1], value[1], picture[1];
+    uint64_t places[DOORSEDGE_LIST_LEN(FRAMES)], count[1], value[1], bytes[1], picture[1];
     must("shared value", doorsedge_get_shared(s->head, TABLES(s), k.slot, k.generation, value));
+    must("total", doorsedge_get_total(s->head, TABLES(s), k.slot, k.generation, bytes));
     must("list", doorsedge_list(s->head, TABLES(s), k.slot, k.generation, places, DOORSEDGE_LIST_LEN(FRAMES), count));
-    printf("run %" PRIu64 ":", value[0]);
+    printf("run %" PRIu64 ", %" PRIu64 " bytes:", value[0], bytes[0]);
     for (uint64_t i = 0; i < count[0]; i++) {
         const uint64_t *place = places + i * DOORSEDGE_PLACE;
         must("get", doorsedge_get(s->head, TABLES(s), place[DOORSEDGE_PLACE_SLOT], place[DOORSEDGE_PLACE_GENERATION], picture));

@@ -9,7 +9,7 @@ use std::{error, fmt};
 /// # fn main() -> Result<(), doorsedge::Refusal> {
 /// use doorsedge::{Arena, Key};
 ///
-/// let key = Arena::fresh(1, 1)?.insert_surject(10, 100)?;
+/// let key = Arena::fresh(1, 1)?.insert_surject(10, 100, 0)?;
 /// assert_eq!(key, Key::new(1, 1));
 /// assert_eq!((key.slot(), key.generation()), (1, 1));
 /// # Ok(())
@@ -135,7 +135,7 @@ impl error::Error for Refusal {}
 /// use doorsedge::{Arena, Cause, Key, Refusal};
 ///
 /// let mut arena = Arena::fresh(4, 3)?;
-/// let (first, second) = (arena.insert_surject(10, 100)?, arena.insert_surject(20, 200)?);
+/// let (first, second) = (arena.insert_surject(10, 100, 0)?, arena.insert_surject(20, 200, 0)?);
 ///
 /// // a damaged key: no frame was ever in slot 9
 /// assert_eq!(arena.lookup(Key::new(9, 1)), Err(Refusal::Dead(Cause::NoSlot)));
@@ -143,7 +143,7 @@ impl error::Error for Refusal {}
 /// arena.remove_element(first)?;
 /// assert_eq!(arena.get(first), Err(Refusal::Dead(Cause::FreeSlot)));
 /// // and then another came into its slot
-/// assert_eq!(arena.insert(second, 21)?.slot(), first.slot());
+/// assert_eq!(arena.insert(second, 21, 0)?.slot(), first.slot());
 /// assert_eq!(arena.get(first), Err(Refusal::Dead(Cause::OtherGeneration)));
 /// assert_eq!(arena.get(first).unwrap_err().to_string(), "refused 3 cause 3: a key is dead, another frame is in its slot now");
 /// # Ok(())

@@ -49,7 +49,7 @@ impl Arena {
     /// use doorsedge::Arena;
     ///
     /// let mut arena = Arena::fresh(2, 2)?;
-    /// let key = arena.insert_surject(10, 100)?;
+    /// let key = arena.insert_surject(10, 100, 0)?;
     /// let (head, elems, shared) = (*arena.head(), arena.elems().to_vec(), arena.shared().to_vec());
     /// assert_eq!(Arena::restored(head, elems, shared)?.get(key), Ok(10));
     /// # Ok(())
@@ -157,7 +157,7 @@ impl<T: Tables> Arena<T> {
     /// use doorsedge::{Arena, Cause, Key, Refusal};
     ///
     /// let mut arena = Arena::fresh(2, 1)?;
-    /// let key = arena.insert_surject(10, 100)?;
+    /// let key = arena.insert_surject(10, 100, 0)?;
     /// assert_eq!(arena.lookup(key), Ok(()));
     /// arena.clear()?;
     /// assert_eq!(arena.lookup(key), Err(Refusal::Dead(Cause::NoSlot)));
@@ -204,6 +204,34 @@ impl<T: Tables> Arena<T> {
         Ok(out[0])
     }
 
+    /// The frame's size in bytes, as it was given: at most [u32::MAX].
+    pub fn get_size(&self, key: Key) -> Result<u64, Refusal> {
+        let mut out = [0];
+        read!(self, doorsedge_get_size, key.slot(), key.generation(), &mut out)?;
+        Ok(out[0])
+    }
+
+    /// The bytes of the key's run: the sizes of its frames, summed. It stands in the run's header, so nothing is walked for it.
+    ///
+    /// ```
+    /// # fn main() -> Result<(), doorsedge::Refusal> {
+    /// let mut arena = doorsedge::Arena::fresh(3, 2)?;
+    /// let first = arena.insert_surject(10, 100, u32::MAX)?;
+    /// let second = arena.insert(first, 11, u32::MAX)?;
+    /// assert_eq!(arena.get_total(first)?, 8_589_934_590);
+    /// arena.set(second, 12)?; // another payload, the size stays
+    /// assert_eq!(arena.get_size(second)?, 4_294_967_295);
+    /// arena.remove_element(second)?;
+    /// assert_eq!(arena.get_total(first)?, 4_294_967_295);
+    /// # Ok(())
+    /// # }
+    /// ```
+    pub fn get_total(&self, key: Key) -> Result<u64, Refusal> {
+        let mut out = [0];
+        read!(self, doorsedge_get_total, key.slot(), key.generation(), &mut out)?;
+        Ok(out[0])
+    }
+
     /// The keys of the key's run, in ring order from it.
     pub fn list(&self, key: Key) -> Result<Vec<Key>, Refusal> {
         let mut places = vec![0; self.len_surject(key)? as usize * PLACE];
@@ -241,7 +269,7 @@ impl<T: Tables> Arena<T> {
     /// let mut arena = doorsedge::Arena::fresh(4, 4)?;
     /// let mut keys = [doorsedge::Key::new(0, 0); 4];
     /// for (n, key) in (1..).zip(&mut keys) {
-    ///     *key = arena.insert_surject(n, 10 * n)?;
+    ///     *key = arena.insert_surject(n, 10 * n, 0)?;
     /// }
     /// assert_eq!(arena.exchange_shared4(keys, [1, 2, 3, 4])?, [10, 20, 30, 40]);
     /// assert_eq!(arena.get_shared(keys[2])?, 3);
@@ -268,12 +296,12 @@ impl<T: Tables> Arena<T> {
     /// use doorsedge::{Arena, Refusal};
     ///
     /// let mut arena = Arena::fresh(3, 2)?;
-    /// let key = arena.insert_surject(10, 100)?;
-    /// arena.insert(key, 11)?;
+    /// let key = arena.insert_surject(10, 100, 0)?;
+    /// arena.insert(key, 11, 0)?;
     /// let saved = arena.seal(key)?;
     /// let payloads: Vec<_> = saved.frames.iter().map(|frame| frame.payload).collect();
     /// assert_eq!((saved.value, payloads), (100, vec![10, 11]));
-    /// assert_eq!(arena.insert(key, 12), Err(Refusal::Sealed));
+    /// assert_eq!(arena.insert(key, 12, 0), Err(Refusal::Sealed));
     /// assert_eq!(arena.remove_element(key)?.payload, 10);
     /// # Ok(())
     /// # }
@@ -295,17 +323,17 @@ impl<T: Tables> Arena<T> {
 
     // ---- frames in and out
 
-    /// Begins a run of one frame.
-    pub fn insert_surject(&mut self, payload: u64, value: u64) -> Result<Key, Refusal> {
+    /// Begins a run of one frame of `size` bytes.
+    pub fn insert_surject(&mut self, payload: u64, value: u64, size: u32) -> Result<Key, Refusal> {
         let mut out = [0; 2];
-        change!(self, doorsedge_insert_surject, payload, value, &mut out)?;
+        change!(self, doorsedge_insert_surject, payload, value, size, &mut out)?;
         Ok(Key::new(out[0], out[1]))
     }
 
-    /// Puts a frame into the key's run, immediately after the key's frame. A [sealed](Arena::seal) run takes none.
-    pub fn insert(&mut self, key: Key, payload: u64) -> Result<Key, Refusal> {
+    /// Puts a frame of `size` bytes into the key's run, immediately after the key's frame. A [sealed](Arena::seal) run takes none.
+    pub fn insert(&mut self, key: Key, payload: u64, size: u32) -> Result<Key, Refusal> {
         let mut out = [0; 2];
-        change!(self, doorsedge_insert, key.slot(), key.generation(), payload, &mut out)?;
+        change!(self, doorsedge_insert, key.slot(), key.generation(), payload, size, &mut out)?;
         Ok(Key::new(out[0], out[1]))
     }
 
@@ -336,8 +364,8 @@ impl<T: Tables> Arena<T> {
     /// ```
     /// # fn main() -> Result<(), doorsedge::Refusal> {
     /// let mut arena = doorsedge::Arena::fresh(2, 1)?;
-    /// let key = arena.insert_surject(10, 100)?;
-    /// arena.insert(key, 11)?;
+    /// let key = arena.insert_surject(10, 100, 0)?;
+    /// arena.insert(key, 11, 0)?;
     /// let out: Vec<_> = arena.drain(key)?.iter().map(|record| (record.payload, record.last)).collect();
     /// assert_eq!(out, [(10, None), (11, Some(100))]);
     /// # Ok(())
@@ -402,8 +430,8 @@ impl<T: Tables> Arena<T> {
     /// use doorsedge::{Arena, Key};
     ///
     /// let mut arena = Arena::fresh(3, 2)?;
-    /// let bad = arena.insert_surject(10, 100)?;
-    /// let mut shown = [arena.insert(bad, 11)?, arena.insert_surject(20, 200)?];
+    /// let bad = arena.insert_surject(10, 100, 0)?;
+    /// let mut shown = [arena.insert(bad, 11, 0)?, arena.insert_surject(20, 200, 0)?];
     /// arena.remove_element(bad)?;
     /// arena.compress_with(false, |old, new| {
     ///     shown.iter_mut().filter(|key| **key == old).for_each(|key| *key = new);

@@ -1,6 +1,7 @@
 //! Runs of frames in lent tables, with a shared value for each run, over the proved archive libhost.a.
 //!
-//! An [Arena] holds frames, each with a payload. Frames stand in rings, called runs, and each run has one shared value.
+//! An [Arena] holds frames, each with a payload and a size in bytes. Frames stand in rings, called runs, and each run has one
+//! shared value and the total of its frames' sizes.
 //! Runs are begun, grown, joined and taken apart; a [Key] stays valid until its frame is removed or the
 //! arena is compressed. Every call tests the tables, and what it cannot do it refuses with a [Refusal], changing nothing.
 //!
@@ -9,14 +10,16 @@
 //!
 //! # fn main() -> Result<(), Refusal> {
 //! let mut arena = Arena::fresh(4, 3)?;
-//! let first = arena.insert_surject(10, 100)?;
-//! let second = arena.insert(first, 11)?;
-//! let other = arena.insert_surject(20, 200)?;
+//! let first = arena.insert_surject(10, 100, 4_000)?;
+//! let second = arena.insert(first, 11, 5_000)?;
+//! let other = arena.insert_surject(20, 200, 600)?;
+//! assert_eq!((arena.get_size(second)?, arena.get_total(second)?), (5_000, 9_000));
 //!
-//! // the larger run's shared value is kept
+//! // the larger run's shared value is kept, and the totals are added
 //! let joined = arena.union(other, first)?;
 //! assert_eq!((joined.was, joined.kept, joined.moved), (200, first, 1));
 //! assert_eq!(arena.list(first)?, [first, other, second]);
+//! assert_eq!(arena.get_total(other)?, 9_600);
 //! assert_eq!(arena.union(other, first), Err(Refusal::SameClass));
 //!
 //! // a removed frame's key is dead, and the refusal says why
@@ -34,16 +37,16 @@
 //!
 //! # fn main() -> Result<(), Refusal> {
 //! let mut arena = Arena::fresh(4, 3)?;
-//! let first = arena.insert_surject(10, 100)?;
-//! let second = arena.insert(first, 11)?;
+//! let first = arena.insert_surject(10, 100, 0)?;
+//! let second = arena.insert(first, 11, 0)?;
 //!
 //! let saved = arena.seal(first)?;
 //! assert_eq!((saved.value, saved.frames.len()), (100, 2));
 //! assert_eq!((saved.frames[1].key, saved.frames[1].payload), (second, 11));
 //!
 //! // a writer that comes too late is told so, and begins a run of its own
-//! assert_eq!(arena.insert(second, 12), Err(Refusal::Sealed));
-//! let late = arena.insert_surject(12, 100)?;
+//! assert_eq!(arena.insert(second, 12, 0), Err(Refusal::Sealed));
+//! let late = arena.insert_surject(12, 100, 0)?;
 //! assert_eq!(arena.union(late, first), Err(Refusal::Sealed));
 //! # Ok(())
 //! # }
@@ -56,11 +59,11 @@
 //!
 //! # fn main() -> Result<(), Refusal> {
 //! let (mut head, mut elems, mut shared) = ([0; 9], [0; elems_len(2)], [0; shared_len(1)]);
-//! Arena::fresh_in(2, 1, &mut head, &mut elems, &mut shared)?.insert_surject(7, 70)?;
+//! Arena::fresh_in(2, 1, &mut head, &mut elems, &mut shared)?.insert_surject(7, 70, 0)?;
 //!
 //! // later: whatever stands there now is tested before it is used
 //! let mut arena = Arena::borrowed(&mut head, &mut elems, &mut shared)?;
-//! assert_eq!(arena.insert_surject(8, 80), Err(Refusal::NoShared));
+//! assert_eq!(arena.insert_surject(8, 80, 0), Err(Refusal::NoShared));
 //!
 //! elems[1] ^= 1; // another payload: still sound
 //! assert!(Arena::borrowed(&mut head, &mut elems, &mut shared).is_ok());
@@ -83,9 +86,9 @@ pub use tables::{Borrowed, Owned, Tables};
 pub use writer::Writer;
 
 /// Numbers to an element slot.
-pub const FRAME: usize = 5;
+pub const FRAME: usize = 6;
 /// Numbers to a shared slot.
-pub const HEADER: usize = 4;
+pub const HEADER: usize = 5;
 /// Numbers to a place that a listing writes.
 pub const PLACE: usize = 2;
 /// Numbers to a place that a seal writes.

@@ -125,6 +125,28 @@ unsafe extern "C" {
         out: *mut [u64; 1],
     ) -> u64;
 
+    pub fn doorsedge_get_size(
+        head: *const Head,
+        elems: *const u64,
+        elems_len: usize,
+        shared: *const u64,
+        shared_len: usize,
+        slot: u64,
+        generation: u64,
+        out: *mut [u64; 1],
+    ) -> u64;
+
+    pub fn doorsedge_get_total(
+        head: *const Head,
+        elems: *const u64,
+        elems_len: usize,
+        shared: *const u64,
+        shared_len: usize,
+        slot: u64,
+        generation: u64,
+        out: *mut [u64; 1],
+    ) -> u64;
+
     pub fn doorsedge_list(
         head: *const Head,
         elems: *const u64,
@@ -194,6 +216,7 @@ unsafe extern "C" {
         shared_len: usize,
         payload: u64,
         value: u64,
+        size: u32,
         out: *mut [u64; 2],
     ) -> u64;
 
@@ -206,6 +229,7 @@ unsafe extern "C" {
         slot: u64,
         generation: u64,
         payload: u64,
+        size: u32,
         out: *mut [u64; 2],
     ) -> u64;
 
@@ -310,6 +334,7 @@ unsafe extern "C" {
         slot: u64,
         generation: u64,
         payload: u64,
+        size: u32,
         out: *mut [u64; 2],
     ) -> u64;
 

@@ -11,12 +11,12 @@ use crate::sys::{self, LentHead};
 ///
 /// # fn main() -> Result<(), Refusal> {
 /// let (mut numbers, mut elems, mut shared) = ([0; 9], [0; elems_len(2)], [0; shared_len(1)]);
-/// let first = Arena::fresh_in(2, 1, &mut numbers, &mut elems, &mut shared)?.insert_surject(7, 70)?;
+/// let first = Arena::fresh_in(2, 1, &mut numbers, &mut elems, &mut shared)?.insert_surject(7, 70, 900)?;
 ///
 /// let mut head = LentHead::from(numbers);
 /// let mut writer = Writer { head: &mut head, elems: &mut elems, shared: &mut shared };
-/// let key = writer.insert(first, 8)?;
-/// assert_eq!(writer.insert(key, 9), Err(Refusal::NoElement));
+/// let key = writer.insert(first, 8, 1_000)?;
+/// assert_eq!(writer.insert(key, 9, 0), Err(Refusal::NoElement));
 /// assert_eq!(writer.remove(key)?.payload, 8);
 /// assert_eq!((head.elems.live, head.generation), (1, 2));
 /// # Ok(())
@@ -39,11 +39,11 @@ macro_rules! lend {
 }
 
 impl Writer<'_> {
-    /// Puts a frame into the key's run, immediately after the key's frame. A run that was
+    /// Puts a frame of `size` bytes into the key's run, immediately after the key's frame. A run that was
     /// [sealed](crate::Arena::seal) takes none: [Sealed](Refusal::Sealed).
-    pub fn insert(&mut self, key: Key, payload: u64) -> Result<Key, Refusal> {
+    pub fn insert(&mut self, key: Key, payload: u64, size: u32) -> Result<Key, Refusal> {
         let mut out = [0; 2];
-        lend!(self, doorsedge_insert_in_place, key.slot(), key.generation(), payload, &mut out)?;
+        lend!(self, doorsedge_insert_in_place, key.slot(), key.generation(), payload, size, &mut out)?;
         Ok(Key::new(out[0], out[1]))
     }
 

@@ -110,8 +110,8 @@ fn door() {
     // these change the state, so each round makes one; the clock's own cost is in all of them
     let check = times(Call::Check);
     for (name, call) in [
-        ("insert_surject, once", Call::InsertSurject { payload: 1, value: 2 }),
-        ("insert, once", Call::Insert(key, 1)),
+        ("insert_surject, once", Call::InsertSurject { payload: 1, value: 2, size: sides::BYTES }),
+        ("insert, once", Call::Insert(key, 1, sides::BYTES)),
         ("remove_element, once", Call::RemoveElement(key)),
         ("clear, once", Call::Clear),
         ("compress_canonical, once", Call::CompressCanonical { reset: 0 }),

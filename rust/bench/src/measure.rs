@@ -1,7 +1,8 @@
 //! Times: the least of many rounds, the sides in turn within each round, so that all see the same machine.
 
-use crate::sides::{Bed, Side};
+use crate::sides::{BYTES, Bed, Side};
 use model::door::Call;
+use model::layout::{NEXT, PREVIOUS};
 use model::{FRAME, Head, Key, Rows};
 use std::time::{Duration, Instant};
 
@@ -79,11 +80,13 @@ pub fn single_calls(n: usize, most: usize) -> Vec<Batch> {
         batch("in_same_surject", &|i| Call::InSameSurject(at(i), at(i + 1))),
         batch("get", &|i| Call::Get(at(i))),
         batch("get_shared", &|i| Call::GetShared(at(i))),
+        batch("get_size", &|i| Call::GetSize(at(i))),
+        batch("get_total", &|i| Call::GetTotal(at(i))),
         batch("set", &|i| Call::Set(at(i), payload(i))),
         batch("set_shared", &|i| Call::SetShared(at(i), payload(i))),
         batch("exchange_shared4", &|i| Call::ExchangeShared4(four(i), [1, 2, 3, 4])),
-        batch("insert_surject", &|i| Call::InsertSurject { payload: payload(i), value: 7 }),
-        batch("insert", &|i| Call::Insert(at(i), payload(i))),
+        batch("insert_surject", &|i| Call::InsertSurject { payload: payload(i), value: 7, size: BYTES }),
+        batch("insert", &|i| Call::Insert(at(i), payload(i), BYTES)),
         one("union (4 + 4)", &|i| Call::Union(pair(i).0, pair(i).1), count.min(runs / 4).max(1)),
         batch("remove_element", &|i| Call::RemoveElement(keys[i % runs])),
         batch("remove_shared (4)", &|i| Call::RemoveShared(keys[i % runs])),
@@ -210,8 +213,9 @@ fn shuffle(bed: &mut Bed) {
     let old = bed.host.elems.clone();
     let moved = |slot: u64| to[slot as usize - 1] as u64 + 1;
     for (row, &at) in old.chunks(FRAME).zip(&to) {
-        let new = [row[0], row[1], row[2], moved(row[3]), moved(row[4])];
-        bed.host.elems[at * FRAME..][..FRAME].copy_from_slice(&new);
+        let new = &mut bed.host.elems[at * FRAME..][..FRAME];
+        new.copy_from_slice(row);
+        (new[PREVIOUS], new[NEXT]) = (moved(row[PREVIOUS]), moved(row[NEXT]));
     }
 }
 

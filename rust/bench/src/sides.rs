@@ -14,6 +14,9 @@ ptr_struct!(P0);
 
 pub type Oracle = SurjectArena<P0, u64, u64>;
 
+/// Every frame's size. The oracle has none.
+pub const BYTES: u32 = 500_000;
+
 #[derive(Clone, Copy, PartialEq, Eq)]
 pub enum Side {
     /// A call of the archive, with its check.
@@ -45,13 +48,13 @@ impl Bed {
         let mut last = vec![];
         for i in 0..live / ring {
             let payload = i as u64;
-            last.push(rows.insert_surject(payload, payload).unwrap());
+            last.push(rows.insert_surject(payload, payload, BYTES).unwrap());
             oracle.insert_surject_within_capacity(payload, payload).unwrap();
         }
         for _ in 1..ring {
             for key in &mut last {
                 let at = ptr(*key);
-                *key = rows.insert(*key, key.slot).unwrap();
+                *key = rows.insert(*key, key.slot, BYTES).unwrap();
                 oracle.insert_within_capacity(at, key.slot).unwrap();
             }
         }
@@ -72,11 +75,11 @@ impl Bed {
     /// One ring of `n` frames, each put in after one that `pick` gives of those before it.
     pub fn one_ring(n: usize, mut pick: impl FnMut(usize) -> usize) -> Bed {
         Bed::made(n, |rows, oracle| {
-            let mut keys = vec![rows.insert_surject(0, 7).unwrap()];
+            let mut keys = vec![rows.insert_surject(0, 7, BYTES).unwrap()];
             oracle.insert_surject_within_capacity(0, 7).unwrap();
             for i in 1..n {
                 let at = keys[pick(i)];
-                keys.push(rows.insert(at, i as u64).unwrap());
+                keys.push(rows.insert(at, i as u64, BYTES).unwrap());
                 oracle.insert_within_capacity(ptr(at), i as u64).unwrap();
             }
         })
@@ -87,7 +90,7 @@ impl Bed {
         Bed::made(n, |rows, oracle| {
             let begin = |rows: &mut Rows, oracle: &mut Oracle, payload: u64| {
                 oracle.insert_surject_within_capacity(payload, payload).unwrap();
-                rows.insert_surject(payload, payload).unwrap()
+                rows.insert_surject(payload, payload, BYTES).unwrap()
             };
             let mut last = begin(rows, oracle, 1);
             for i in 1..n as u64 {
@@ -175,7 +178,9 @@ impl Bed {
 /// The writer's two calls.
 fn write(writer: &mut Writer, call: &Call) -> Option<u64> {
     match *call {
-        Call::Insert(k, payload) => writer.insert(Frame::new(k.slot, k.generation), payload).ok().map(|key| key.slot()),
+        Call::Insert(k, payload, size) => {
+            writer.insert(Frame::new(k.slot, k.generation), payload, size).ok().map(|key| key.slot())
+        }
         Call::RemoveElement(k) => writer.remove(Frame::new(k.slot, k.generation)).ok().map(|out| out.payload),
         _ => None,
     }
@@ -194,11 +199,17 @@ fn step(rows: &mut Rows, call: &Call, lent: &mut [u64]) -> Option<u64> {
         Call::InSameSurject(j, k) => rows.in_same_surject(j, k).ok().map(u64::from),
         Call::Get(k) => rows.get(k).ok(),
         Call::GetShared(k) => rows.get_shared(k).ok(),
+        Call::GetSize(k) => rows.get_size(k).ok(),
+        Call::GetTotal(k) => rows.get_total(k).ok(),
         Call::Set(k, payload) => rows.set(k, payload).ok(),
         Call::SetShared(k, value) => rows.set_shared(k, value).ok(),
         Call::ExchangeShared4(keys, values) => rows.exchange_shared4(keys, values).ok().map(|old| old[0]),
-        Call::InsertSurject { payload, value } => rows.insert_surject(payload, value).ok().map(|key| key.slot),
-        Call::Insert(k, payload) | Call::InsertInPlace(k, payload) => rows.insert(k, payload).ok().map(|key| key.slot),
+        Call::InsertSurject { payload, value, size } => {
+            rows.insert_surject(payload, value, size).ok().map(|key| key.slot)
+        }
+        Call::Insert(k, payload, size) | Call::InsertInPlace(k, payload, size) => {
+            rows.insert(k, payload, size).ok().map(|key| key.slot)
+        }
         Call::Union(j, k) => rows.union(j, k).ok().map(|joined| joined.was),
         Call::RemoveElement(k) | Call::RemoveInPlace(k) => rows.remove_element(k).ok().map(|out| out.payload),
         Call::RemoveShared(k) => rows.remove_shared(k).ok().map(|(value, _)| value),
@@ -223,6 +234,9 @@ fn ask(a: &mut Oracle, call: &Call, lent: &mut [u64]) -> Option<u64> {
         Call::InSameSurject(j, k) => a.in_same_surject(ptr(j), ptr(k))? as u64,
         Call::Get(k) => *a.get(ptr(k))?,
         Call::GetShared(k) => *a.get_shared(ptr(k))?,
+        // the oracle has no sizes: its payloads stand for them, and a total is summed around the ring
+        Call::GetSize(k) => *a.get(ptr(k))?,
+        Call::GetTotal(k) => a.iter_surject(ptr(k))?.map(|(_, t, _)| *t).sum(),
         Call::Set(k, payload) => std::mem::replace(a.get_mut(ptr(k))?, payload),
         Call::SetShared(k, value) => std::mem::replace(a.get_shared_mut(ptr(k))?, value),
         Call::ExchangeShared4(keys, values) => {
@@ -230,10 +244,10 @@ fn ask(a: &mut Oracle, call: &Call, lent: &mut [u64]) -> Option<u64> {
             let mut values = values.into_iter();
             old.map(|s| std::mem::replace(s, values.next().unwrap()))[0]
         }
-        Call::InsertSurject { payload, value } => {
+        Call::InsertSurject { payload, value, .. } => {
             a.insert_surject_within_capacity(payload, value).ok()?.inx().get() as u64
         }
-        Call::Insert(k, payload) | Call::InsertInPlace(k, payload) => {
+        Call::Insert(k, payload, _) | Call::InsertInPlace(k, payload, _) => {
             a.insert_within_capacity(ptr(k), payload).ok()?.inx().get() as u64
         }
         Call::Union(j, k) => a.union(ptr(j), ptr(k))?.0,

@@ -17,10 +17,10 @@ pub enum Call {
     Set(Name, u64),
     SetShared(Name, u64),
     Exchange([Name; 4], [u64; 4]),
-    /// The frame that is put in, its payload, the run's shared value.
-    InsertSurject(Name, u64, u64),
-    /// At the first; the frame that is put in is the second.
-    Insert(Name, Name, u64),
+    /// The frame that is put in, its payload, the run's shared value, the frame's size.
+    InsertSurject(Name, u64, u64, u32),
+    /// At the first; the frame that is put in is the second, with its payload and size.
+    Insert(Name, Name, u64, u32),
     Union(Name, Name),
     RemoveElement(Name),
     RemoveShared(Name),
@@ -33,9 +33,11 @@ pub enum Call {
     Seal(Name),
     CompressWith(bool),
     Lookup(Name),
+    GetSize(Name),
+    GetTotal(Name),
 }
 
-pub const KINDS: [&str; 22] = [
+pub const KINDS: [&str; 24] = [
     "fresh",
     "check",
     "len_surject",
@@ -58,6 +60,8 @@ pub const KINDS: [&str; 22] = [
     "seal",
     "compress_with",
     "lookup",
+    "get_size",
+    "get_total",
 ];
 
 impl Call {
@@ -86,6 +90,8 @@ impl Call {
             Call::Seal(_) => 19,
             Call::CompressWith(_) => 20,
             Call::Lookup(_) => 21,
+            Call::GetSize(_) => 22,
+            Call::GetTotal(_) => 23,
         }
     }
 
@@ -103,7 +109,9 @@ impl Call {
             | Call::List(k)
             | Call::Drain(k)
             | Call::Seal(k)
-            | Call::Lookup(k) => vec![k],
+            | Call::Lookup(k)
+            | Call::GetSize(k)
+            | Call::GetTotal(k) => vec![k],
             Call::InSameSurject(j, k) | Call::Union(j, k) => vec![j, k],
             Call::Exchange(keys, _) => keys.to_vec(),
             Call::Fresh | Call::Check | Call::InsertSurject(..) | Call::DrainAll | Call::Clear => vec![],
@@ -133,14 +141,20 @@ impl fmt::Display for Call {
             | Call::List(k)
             | Call::Drain(k)
             | Call::Seal(k)
-            | Call::Lookup(k) => write!(f, "{kind} {}", Shown(k)),
+            | Call::Lookup(k)
+            | Call::GetSize(k)
+            | Call::GetTotal(k) => write!(f, "{kind} {}", Shown(k)),
             Call::InSameSurject(j, k) | Call::Union(j, k) => write!(f, "{kind} {} {}", Shown(j), Shown(k)),
             Call::Set(k, n) | Call::SetShared(k, n) => write!(f, "{kind} {} {n}", Shown(k)),
             Call::Exchange([a, b, c, d], [x, y, z, w]) => {
                 write!(f, "{kind} {} {} {} {} {x} {y} {z} {w}", Shown(a), Shown(b), Shown(c), Shown(d))
             }
-            Call::InsertSurject(name, payload, value) => write!(f, "{} = {kind} {payload} {value}", Shown(name)),
-            Call::Insert(at, name, payload) => write!(f, "{} = {kind} {} {payload}", Shown(name), Shown(at)),
+            Call::InsertSurject(name, payload, value, size) => {
+                write!(f, "{} = {kind} {payload} {value} {size}", Shown(name))
+            }
+            Call::Insert(at, name, payload, size) => {
+                write!(f, "{} = {kind} {} {payload} {size}", Shown(name), Shown(at))
+            }
             Call::Compress(reset) | Call::CompressWith(reset) => {
                 write!(f, "{kind}{}", if reset { " reset" } else { "" })
             }

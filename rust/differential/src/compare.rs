@@ -1,9 +1,10 @@
-//! What is compared after a call: count, membership, payloads, shared values, ring order, len; and of the mark, which the
-//! oracle has not, whether the run was sealed by a call.
+//! What is compared after a call: count, membership, payloads, sizes, shared values, ring order, len; the total, with the sum over
+//! the oracle's ring; and of the mark, which the oracle has not, whether the run was sealed by a call.
 
 use crate::calls::{NEVER, Name};
-use crate::pair::{Oracle, Pair, has, same};
+use crate::pair::{Oracle, Pair, Picture, has, same};
 use crate::seal::MARK;
+use crate::totals::TOTAL;
 use doorsedge::{FRAME, HEADER, Key, PLACE, Refusal};
 use triple_arena::traits::*;
 
@@ -26,15 +27,16 @@ impl Pair {
         for name in 0..self.frames.len() {
             let Some(frame) = self.frames[name] else { continue };
             let (key, ptr) = (frame.key, frame.ptr);
-            let Some(payload) = self.oracle.get(ptr).copied() else {
+            let Some(picture) = self.oracle.get(ptr).copied() else {
                 self.is_dead(name)?;
                 continue;
             };
             if has("lookup") {
                 same("lookup", self.port.lookup(key), Ok(()))?;
             }
-            same("payload", self.port.get(key), Ok(payload))?;
-            same("payload given", payload, frame.payload)?;
+            same("payload", self.port.get(key), Ok(picture.0))?;
+            same("payload and size given", picture, frame.picture)?;
+            self.same_bytes(name)?;
             same("shared value", self.port.get_shared(key), Ok(*self.oracle.get_shared(ptr).unwrap()))?;
             let len = self.oracle.len_surject(ptr).unwrap().get() as u64;
             same("len", self.port.len_surject(key), Ok(len))?;
@@ -74,7 +76,7 @@ impl Pair {
             p.list_into(key, &mut []).err(),
             p.set(key, 1).err(),
             p.set_shared(key, 1).err(),
-            p.insert(key, 1).err(),
+            p.insert(key, 1, 1).err(),
             p.union(key, live).err(),
             p.union(live, key).err(),
             p.union(key, never).err(),
@@ -86,6 +88,12 @@ impl Pair {
         }
         if has("lookup") {
             all.push(p.lookup(key).err());
+        }
+        if has("get_size") {
+            all.push(p.get_size(key).err());
+        }
+        if has("get_total") {
+            all.push(p.get_total(key).err());
         }
         if has("remove_shared") {
             all.push(p.remove_shared(key).err());
@@ -114,16 +122,19 @@ impl Pair {
             if met[name] {
                 continue;
             }
-            let wanted: Vec<(Name, u64)> =
+            let wanted: Vec<(Name, Picture)> =
                 self.oracle.iter_surject(first).unwrap().map(|(p, t, _)| (self.name_of_ptr(p), *t)).collect();
             wanted.iter().for_each(|(name, _)| met[*name] = true);
             let (ring, class) = self.ring_in_tables(self.keys(name).0, wanted.len())?;
             let header = &self.port.shared()[(class - 1) * HEADER..][..HEADER];
-            let (count1, value1, mark) = (header[0], header[1], header[MARK]);
+            let (count1, value1, mark, total) = (header[0], header[1], header[MARK], header[TOTAL]);
+            let bytes = wanted.iter().map(|(_, picture)| u64::from(picture.1)).sum();
+            same("total", total, bytes)?;
+            self.tally.largest_total = self.tally.largest_total.max(bytes);
             same("len", (count1, value1), (wanted.len() as u64, *value))?;
             same("mark", mark, self.is_sealed(name) as u64)?;
             same("len", self.oracle.len_surject(first).unwrap().get(), wanted.len())?;
-            let sorted = |mut ring: Vec<(Name, u64)>| {
+            let sorted = |mut ring: Vec<(Name, Picture)>| {
                 ring.sort_unstable();
                 ring
             };
@@ -138,8 +149,8 @@ impl Pair {
         same("number of frames", self.port.len(), count)
     }
 
-    /// The names and payloads of `len` frames along next, which must lead back; and their class.
-    fn ring_in_tables(&self, key: Key, len: usize) -> Result<(Vec<(Name, u64)>, usize), String> {
+    /// The names, payloads and sizes of `len` frames along next, which must lead back; and their class.
+    fn ring_in_tables(&self, key: Key, len: usize) -> Result<(Vec<(Name, Picture)>, usize), String> {
         let row = |slot: u64| &self.port.elems()[(slot as usize - 1) * FRAME..][..FRAME];
         if row(key.slot())[0] != key.generation() {
             return Err(format!("membership: {key:?} is dead in the archive's tables"));
@@ -147,9 +158,10 @@ impl Pair {
         let (mut slot, class) = (key.slot(), row(key.slot())[2]);
         let mut ring = Vec::with_capacity(len);
         for _ in 0..len {
-            let [generation, payload, its, _, next] = *row(slot) else { unreachable!() };
+            let [generation, payload, its, _, next, size] = *row(slot) else { unreachable!() };
+            let size = u32::try_from(size).map_err(|_| format!("a size past a u32: {size}"))?;
             same("class along a ring", its, class)?;
-            ring.push((self.name_of_key(Key::new(slot, generation)), payload));
+            ring.push((self.name_of_key(Key::new(slot, generation)), (payload, size)));
             slot = next;
         }
         same("end of a ring", slot, key.slot())?;

@@ -30,11 +30,20 @@ fn number(serial: usize) -> u64 {
     100 + serial as u64
 }
 
+/// A frame's size: none, the most, or any.
+fn bytes(name: Name) -> u32 {
+    match name % 5 {
+        0 => 0,
+        1 => u32::MAX,
+        _ => (name as u32).wrapping_mul(2_654_435_761),
+    }
+}
+
 /// Every call that can come next after these, at every live frame. Reads, and calls at dead keys, are made by the comparison.
 pub fn next_calls(live: &[Name], made: usize) -> Vec<Call> {
     let (payload, value) = (number(2 * made), number(2 * made + 1));
     let mut calls = vec![
-        Call::InsertSurject(made, payload, value),
+        Call::InsertSurject(made, payload, value, bytes(made)),
         Call::DrainAll,
         Call::Clear,
         Call::Compress(false),
@@ -45,7 +54,7 @@ pub fn next_calls(live: &[Name], made: usize) -> Vec<Call> {
     ];
     for &k in live {
         calls.extend([
-            Call::Insert(k, made, payload),
+            Call::Insert(k, made, payload, bytes(made)),
             Call::Set(k, payload),
             Call::SetShared(k, value),
             Call::RemoveElement(k),
@@ -97,8 +106,8 @@ struct Mix([usize; KINDS.len()]);
 impl Mix {
     fn any(r: &mut Random) -> Mix {
         // fresh to get_shared; set, set_shared, exchange; new run, insert, union; removals; list, drains, clear, compress; seal;
-        // compress_with; lookup
-        let usual = [1, 3, 3, 3, 3, 3, 4, 4, 6, 14, 20, 12, 10, 3, 4, 2, 1, 1, 3, 2, 3, 3];
+        // compress_with; lookup; get_size, get_total
+        let usual = [1, 3, 3, 3, 3, 3, 4, 4, 6, 14, 20, 12, 10, 3, 4, 2, 1, 1, 3, 2, 3, 3, 3, 3];
         Mix(usual.map(|n| n * r.of(&[0, 1, 1, 1, 2, 6])))
     }
 
@@ -144,7 +153,7 @@ fn any_call(pair: &Pair, kind: usize, serial: usize, r: &mut Random) -> Call {
     let (payload, value) = (number(2 * serial), number(2 * serial + 1));
     // with no frames there is little to call but a new run
     if pair.oracle.is_empty() && r.below(4) > 0 {
-        return Call::InsertSurject(serial, payload, value);
+        return Call::InsertSurject(serial, payload, value, bytes(serial));
     }
     match kind {
         0 => Call::Fresh,
@@ -156,8 +165,8 @@ fn any_call(pair: &Pair, kind: usize, serial: usize, r: &mut Random) -> Call {
         6 => Call::Set(k, payload),
         7 => Call::SetShared(k, value),
         8 => Call::Exchange(four, [payload, value, payload + 1, value + 1]),
-        9 => Call::InsertSurject(serial, payload, value),
-        10 => Call::Insert(k, serial, payload),
+        9 => Call::InsertSurject(serial, payload, value, bytes(serial)),
+        10 => Call::Insert(k, serial, payload, bytes(serial)),
         11 => Call::Union(four[0], four[1]),
         12 => Call::RemoveElement(k),
         13 => Call::RemoveShared(k),
@@ -168,7 +177,9 @@ fn any_call(pair: &Pair, kind: usize, serial: usize, r: &mut Random) -> Call {
         18 => Call::Compress(r.below(3) == 0),
         19 => Call::Seal(k),
         20 => Call::CompressWith(r.below(3) == 0),
-        _ => Call::Lookup(k),
+        21 => Call::Lookup(k),
+        22 => Call::GetSize(k),
+        _ => Call::GetTotal(k),
     }
 }
 
@@ -186,7 +197,7 @@ pub fn apart(pair: &Pair, live: &[Name], four: &mut [Name; 4], r: &mut Random) {
 }
 
 fn new_runs(count: usize) -> Vec<Call> {
-    (0..count).map(|i| Call::InsertSurject(i, number(2 * i), number(2 * i + 1))).collect()
+    (0..count).map(|i| Call::InsertSurject(i, number(2 * i), number(2 * i + 1), bytes(i))).collect()
 }
 
 /// Runs of one joined two by two, then four by four, and so on: the most rewriting that there is.
@@ -210,11 +221,11 @@ fn one_ring(n: usize, r: &mut Random) -> Vec<Call> {
     for i in 1..n {
         let payload = number(2 * i);
         if i % 3 == 0 {
-            calls.push(Call::InsertSurject(i, payload, payload + 1));
+            calls.push(Call::InsertSurject(i, payload, payload + 1, bytes(i)));
             let at = r.below(i);
             calls.push(if i % 2 == 0 { Call::Union(i, at) } else { Call::Union(at, i) });
         } else {
-            calls.push(Call::Insert(r.below(i), i, payload));
+            calls.push(Call::Insert(r.below(i), i, payload, bytes(i)));
         }
     }
     calls.extend((0..n).step_by(3).map(Call::RemoveElement));
@@ -230,9 +241,9 @@ fn churn(n: usize, rounds: usize, r: &mut Random) -> Vec<Call> {
         while live.len() < n {
             let payload = number(2 * serial);
             if live.is_empty() || r.below(3) == 0 {
-                calls.push(Call::InsertSurject(serial, payload, payload + 1));
+                calls.push(Call::InsertSurject(serial, payload, payload + 1, bytes(serial)));
             } else {
-                calls.push(Call::Insert(r.of(&live), serial, payload));
+                calls.push(Call::Insert(r.of(&live), serial, payload, bytes(serial)));
             }
             live.push(serial);
             serial += 1;
@@ -271,7 +282,7 @@ fn displaced(n: usize, r: &mut Random) -> Vec<Call> {
             }
         }
         for _ in 0..n / 4 {
-            calls.push(Call::InsertSurject(serial, number(2 * serial), number(2 * serial + 1)));
+            calls.push(Call::InsertSurject(serial, number(2 * serial), number(2 * serial + 1), bytes(serial)));
             left.push(serial);
             serial += 1;
         }
@@ -287,12 +298,12 @@ fn sealed(n: usize, r: &mut Random) -> Vec<Call> {
     let mut calls = new_runs(runs);
     let ring = |run: usize| [0, 1, 2, 3].map(|i| i * runs + run);
     for (at, new) in (0..3 * runs).zip(runs..) {
-        calls.push(Call::Insert(at, new, number(2 * new)));
+        calls.push(Call::Insert(at, new, number(2 * new), bytes(new)));
     }
     let mut serial = 4 * runs;
     let mut late = |calls: &mut Vec<Call>, r: &mut Random| {
         for run in 0..runs {
-            calls.push(Call::Insert(r.of(&ring(run)), serial, number(2 * serial)));
+            calls.push(Call::Insert(r.of(&ring(run)), serial, number(2 * serial), bytes(serial)));
             let (j, k) = (r.of(&ring(run)), r.of(&ring((run + 1) % runs)));
             calls.push(if r.below(2) == 0 { Call::Union(j, k) } else { Call::Union(k, j) });
             serial += 1;
@@ -308,8 +319,8 @@ fn sealed(n: usize, r: &mut Random) -> Vec<Call> {
     calls.extend((0..runs).map(|run| Call::Seal(kept(run))));
     for run in (0..runs).step_by(3) {
         calls.push(if run % 2 == 0 { Call::RemoveShared(kept(run)) } else { Call::Drain(kept(run)) });
-        calls.push(Call::InsertSurject(serial, number(2 * serial), number(2 * serial + 1)));
-        calls.push(Call::Insert(serial, serial + 1, number(2 * serial + 2)));
+        calls.push(Call::InsertSurject(serial, number(2 * serial), number(2 * serial + 1), bytes(serial)));
+        calls.push(Call::Insert(serial, serial + 1, number(2 * serial + 2), bytes(serial + 1)));
         serial += 2;
     }
     calls.extend([Call::Compress(true), Call::DrainAll]);
@@ -325,9 +336,9 @@ fn in_order(n: usize, r: &mut Random) -> Vec<Call> {
         while live.len() < n {
             let payload = number(2 * serial);
             if live.is_empty() || r.below(4) == 0 {
-                calls.push(Call::InsertSurject(serial, payload, payload + 1));
+                calls.push(Call::InsertSurject(serial, payload, payload + 1, bytes(serial)));
             } else {
-                calls.push(Call::Insert(r.of(&live), serial, payload));
+                calls.push(Call::Insert(r.of(&live), serial, payload, bytes(serial)));
             }
             // an insert at a sealed run is refused; its name is then never given
             live.push(serial);

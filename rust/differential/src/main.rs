@@ -14,6 +14,7 @@ mod pair;
 mod run;
 mod sample;
 mod seal;
+mod totals;
 
 use calls::{Call, Case, KINDS};
 use generate::Random;
@@ -30,8 +31,7 @@ struct Args {
     fault: Fault,
 }
 
-const USAGE: &str =
-    "usage: differential [CASES] [SEED] [--length N] [--fault equal|run|map|further|seal|ring|pairs|headers|cause]";
+const USAGE: &str = "usage: differential [CASES] [SEED] [--length N] [--fault equal|run|map|further|seal|ring|pairs|headers|cause|size|sizes]";
 
 fn args() -> Option<Args> {
     let mut args = Args { cases: 20_000, seed: 1, length: 5, fault: Fault::None };
@@ -50,6 +50,8 @@ fn args() -> Option<Args> {
                     "pairs" => Fault::PairsCrossed,
                     "headers" => Fault::HeadersCrossed,
                     "cause" => Fault::KeysSwapped,
+                    "size" => Fault::SizeOff,
+                    "sizes" => Fault::SizesCrossed,
                     _ => return None,
                 }
             }
@@ -80,6 +82,7 @@ impl Progress {
         all.causes.iter_mut().zip(tally.causes).for_each(|(sum, n)| *sum += n);
         all.longest_ring = all.longest_ring.max(tally.longest_ring);
         all.largest_union = all.largest_union.max(tally.largest_union);
+        all.largest_total = all.largest_total.max(tally.largest_total);
         if self.shown.elapsed() > Duration::from_millis(200) {
             self.shown = Instant::now();
             self.line(&format!("{phase}: {} sequences, {} calls", self.tally.sequences, calls_made(&self.tally)));
@@ -100,7 +103,8 @@ fn calls_made(tally: &Tally) -> u64 {
 
 /// Whether both sides put a new frame on the same side of its target: three frames tell.
 fn measured_side() -> bool {
-    let calls = vec![Call::InsertSurject(0, 1, 2), Call::Insert(0, 1, 3), Call::Insert(0, 2, 4), Call::List(0)];
+    let calls =
+        vec![Call::InsertSurject(0, 1, 2, 0), Call::Insert(0, 1, 3, 0), Call::Insert(0, 2, 4, 0), Call::List(0)];
     let way = Way { ordered: true, fault: Fault::None };
     way.run(&Case { elems: 3, shared: 1, calls, stride: 4 }).is_ok()
 }
@@ -142,6 +146,7 @@ fn summary(args: &Args, way: &Way, progress: &Progress) {
     println!("{:<20}{none:>12} no slot{free:>12} free slot{old:>12} other generation", "refused 3 by cause");
     println!("{:<20}{:>12}", "longest ring", tally.longest_ring);
     println!("{:<20}{:>12}", "largest union", tally.largest_union);
+    println!("{:<20}{:>12} bytes", "largest total", tally.largest_total);
     let side = if way.ordered { "the same: rings in order" } else { "DIFFERENT: rings as sets" };
     println!("{:<20}{side}", "insert's side");
     if !doorsedge::sys::MISSING.is_empty() {

@@ -1,7 +1,7 @@
 //! Compression in slot order: the pairs of keys that the archive writes beside those that the oracle's closure is handed.
 
 use crate::calls::{NEVER, Name};
-use crate::pair::{Fault, P0, Pair, same};
+use crate::pair::{Fault, P0, Pair, Picture, same};
 use doorsedge::{Arena, FRAME, HEADER, Key, Moved, PAIR, Refusal};
 use triple_arena::traits::*;
 
@@ -23,18 +23,18 @@ impl Pair {
             _ => (),
         }
         let mut told = vec![];
-        self.oracle.compress_with(reset, |old, payload, new| told.push((old, *payload, new))).allow();
+        self.oracle.compress_with(reset, |old, picture, new| told.push((old, *picture, new))).allow();
         self.learn_pairs(&moved, &told)?;
         self.same_headers()?;
         Ok(None)
     }
 
-    fn learn_pairs(&mut self, moved: &[Moved], told: &[(P0, u64, P0)]) -> Result<(), String> {
+    fn learn_pairs(&mut self, moved: &[Moved], told: &[(P0, Picture, P0)]) -> Result<(), String> {
         if moved.iter().any(|pair| pair.new.generation() != self.port.generation()) {
             return Err("a pair's new key has another generation than the head".into());
         }
         let mut port: Vec<(Name, Key)> = moved.iter().map(|pair| (self.name_of_key(pair.old), pair.new)).collect();
-        let mut oracle: Vec<(Name, u64, P0)> =
+        let mut oracle: Vec<(Name, Picture, P0)> =
             told.iter().map(|(old, t, new)| (self.name_of_ptr(*old), *t, *new)).collect();
         if !self.ordered {
             // insert's side differs, and after a canonical compression the slots with it
@@ -46,12 +46,12 @@ impl Pair {
         let frames = std::mem::take(&mut self.frames);
         self.frames = vec![None; frames.len()];
         self.forget();
-        for ((name, key), (_, payload, ptr)) in port.iter().zip(&oracle) {
+        for ((name, key), (_, picture, ptr)) in port.iter().zip(&oracle) {
             if *name == NEVER {
                 return Err("a pair's old key was not given".into());
             }
-            same("payload in a pair", Some(*payload), frames[*name].map(|frame| frame.payload))?;
-            self.learn(*name, *key, *ptr, *payload)?;
+            same("payload and size in a pair", Some(*picture), frames[*name].map(|frame| frame.picture))?;
+            self.learn(*name, *key, *ptr, *picture)?;
         }
         if self.ordered {
             port.sort_unstable_by_key(|(_, key)| key.slot());

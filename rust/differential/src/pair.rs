@@ -9,14 +9,17 @@ use triple_arena::{SurjectArena, ptr_struct};
 
 ptr_struct!(P0);
 
-pub type Oracle = SurjectArena<P0, u64, u64>;
+/// What the oracle has for a payload: the archive's payload, and the frame's size.
+pub type Picture = (u64, u32);
 
-/// A frame on both sides, and the payload that it was given last.
+pub type Oracle = SurjectArena<P0, Picture, u64>;
+
+/// A frame on both sides, with the payload that it was given last and its size.
 #[derive(Clone, Copy, Debug)]
 pub struct Frame {
     pub key: Key,
     pub ptr: P0,
-    pub payload: u64,
+    pub picture: Picture,
 }
 
 /// A wrong step that is planted in the driver, to show that the run catches it.
@@ -41,6 +44,10 @@ pub enum Fault {
     HeadersCrossed,
     /// Whether two frames are of one run is asked with their keys the other way round.
     KeysSwapped,
+    /// Insert at a run of two or more gives the archive one byte less.
+    SizeOff,
+    /// A canonical compression leaves the first run of two or more with the sizes of two frames exchanged.
+    SizesCrossed,
 }
 
 /// What was met.
@@ -53,6 +60,7 @@ pub struct Tally {
     pub causes: [u64; 3],
     pub longest_ring: u64,
     pub largest_union: u64,
+    pub largest_total: u64,
     pub compared: u64,
 }
 
@@ -129,7 +137,7 @@ impl Pair {
     }
 
     /// The map is one-to-one: a slot of a live frame is not given again.
-    pub fn learn(&mut self, name: Name, key: Key, ptr: P0, payload: u64) -> Result<(), String> {
+    pub fn learn(&mut self, name: Name, key: Key, ptr: P0, picture: Picture) -> Result<(), String> {
         let Some(before) = self.by_key.get(key.slot() as usize).copied() else {
             return Err(format!("the archive gives {key:?}, past its capacity"));
         };
@@ -139,7 +147,7 @@ impl Pair {
         if self.frames.len() <= name {
             self.frames.resize(name + 1, None);
         }
-        self.frames[name] = Some(Frame { key, ptr, payload });
+        self.frames[name] = Some(Frame { key, ptr, picture });
         self.by_key[key.slot() as usize] = name;
         self.by_ptr[ptr.inx().get()] = name;
         self.extent = self.extent.max(key.slot());
@@ -199,6 +207,8 @@ impl Pair {
             Call::RemoveElement(_) | Call::RemoveShared(_) | Call::Drain(_) => self.take_out(call)?,
             Call::DrainAll | Call::Clear | Call::Compress(_) => self.on_all(call)?,
             Call::CompressWith(reset) => self.compress_with(reset)?,
+            Call::GetSize(k) => self.get_size(k)?,
+            Call::GetTotal(k) => self.get_total(k)?,
             _ => self.read_or_set(call)?,
         };
         let column = match refusal {
@@ -248,7 +258,7 @@ impl Pair {
             }
             Call::Get(k) => {
                 let said = port.get(keys(k).0);
-                same("payload", said, oracle.get(keys(k).1).copied().ok_or(dead))?;
+                same("payload", said, oracle.get(keys(k).1).map(|picture| picture.0).ok_or(dead))?;
                 Ok(said.err())
             }
             Call::GetShared(k) => {
@@ -258,10 +268,10 @@ impl Pair {
             }
             Call::Set(k, payload) => {
                 let said = port.set(keys(k).0, payload);
-                let old = oracle.get_mut(keys(k).1).map(|t| std::mem::replace(t, payload));
+                let old = oracle.get_mut(keys(k).1).map(|t| std::mem::replace(&mut t.0, payload));
                 same("old payload", said, old.ok_or(dead))?;
                 if said.is_ok() {
-                    self.frames[k].as_mut().unwrap().payload = payload;
+                    self.frames[k].as_mut().unwrap().picture.0 = payload;
                 }
                 Ok(said.err())
             }
@@ -317,28 +327,29 @@ impl Pair {
                 self.forget();
                 Ok(None)
             }
-            Call::InsertSurject(name, payload, value) => {
-                let said = self.port.insert_surject(payload, value);
-                let ptr = self.oracle.insert_surject_within_capacity(payload, value);
+            Call::InsertSurject(name, payload, value, size) => {
+                let said = self.port.insert_surject(payload, value, size);
+                let ptr = self.oracle.insert_surject_within_capacity((payload, size), value);
                 let (Ok(key), Ok(ptr)) = (said, ptr) else {
                     return Err(format!("new run: archive {said:?}, oracle {ptr:?}"));
                 };
-                self.learn(name, key, ptr, payload)?;
+                self.learn(name, key, ptr, (payload, size))?;
                 Ok(None)
             }
-            Call::Insert(at, name, payload) => {
+            Call::Insert(at, name, payload, size) => {
                 let (mut key, ptr) = self.keys(at);
                 if self.fault == Fault::OneFurther && self.port.len_surject(key).is_ok_and(|n| n >= 4) {
                     key = self.port.list(key).unwrap()[1];
                 }
-                let said = self.port.insert(key, payload);
+                let off = self.fault == Fault::SizeOff && self.port.len_surject(key).is_ok_and(|n| n >= 2);
+                let said = self.port.insert(key, payload, if off { size.wrapping_sub(1) } else { size });
                 if self.is_sealed(at) {
                     return refused_12("insert", said.err());
                 }
-                let new = self.oracle.insert_within_capacity(ptr, payload);
+                let new = self.oracle.insert_within_capacity(ptr, (payload, size));
                 match (said, new) {
                     (Ok(key), Ok(ptr)) => {
-                        self.learn(name, key, ptr, payload)?;
+                        self.learn(name, key, ptr, (payload, size))?;
                         Ok(None)
                     }
                     (Err(refusal), Err(triple_arena::errors::ChainInsertionError::FailedLinkRequirement)) => {
@@ -394,7 +405,7 @@ impl Pair {
             Call::RemoveElement(k) => {
                 let (key, ptr) = self.keys(k);
                 let said = self.port.remove_element(key);
-                let out = self.oracle.remove_element(ptr).allow().ok_or(dead);
+                let out = self.oracle.remove_element(ptr).allow().map(|(t, last)| (t.0, last)).ok_or(dead);
                 same("removal", said.map(|out| (out.payload, out.last)), out)?;
                 same("overflow", said.is_ok_and(|out| out.overflow), false)?;
                 Ok(said.err())
@@ -431,7 +442,7 @@ impl Pair {
     }
 
     /// The records of one run: the same frames in the same order, the shared value with the last one alone.
-    fn same_drain(&self, records: &[Record], wanted: &[(P0, u64, Option<u64>)]) -> Result<(), String> {
+    fn same_drain(&self, records: &[Record], wanted: &[(P0, Picture, Option<u64>)]) -> Result<(), String> {
         let ring = records.iter().map(|record| self.name_of_key(record.key)).collect();
         let other = wanted.iter().map(|(ptr, _, _)| self.name_of_ptr(*ptr)).collect();
         same("drained ring", self.as_compared(ring), self.as_compared(other))?;
@@ -445,7 +456,7 @@ impl Pair {
     }
 
     fn payload(&self, name: Name) -> Option<u64> {
-        self.frames.get(name).copied().flatten().map(|frame| frame.payload)
+        self.frames.get(name).copied().flatten().map(|frame| frame.picture.0)
     }
 
     fn on_all(&mut self, call: &Call) -> Result<Option<Refusal>, String> {
@@ -463,6 +474,9 @@ impl Pair {
             }
             Call::Compress(reset) => {
                 same("compression", self.port.compress_canonical(reset), Ok(false))?;
+                if self.fault == Fault::SizesCrossed {
+                    self.cross_sizes();
+                }
                 self.oracle.compress_canonical(reset).allow();
                 self.relearn()?;
             }
@@ -472,10 +486,10 @@ impl Pair {
     }
 
     /// Drain-all is compared run by run: slot numbers, and so the order of runs and where each begins, may differ.
-    fn same_runs(&self, said: &[Record], wanted: &[(P0, u64, Option<u64>)]) -> Result<(), String> {
+    fn same_runs(&self, said: &[Record], wanted: &[(P0, Picture, Option<u64>)]) -> Result<(), String> {
         let port =
             said.iter().map(|record| (self.name_of_key(record.key), record.payload, record.last)).collect::<Vec<_>>();
-        let oracle = wanted.iter().map(|(ptr, t, s)| (self.name_of_ptr(*ptr), *t, *s)).collect::<Vec<_>>();
+        let oracle = wanted.iter().map(|(ptr, t, s)| (self.name_of_ptr(*ptr), t.0, *s)).collect::<Vec<_>>();
         same("overflow", said.iter().any(|record| record.overflow), false)?;
         same("drained runs", self.runs(&port), self.runs(&oracle))
     }
@@ -510,18 +524,18 @@ impl Pair {
         if rows.iter().any(|(_, key)| key.generation() != generation) {
             return Err("compression left an old generation".into());
         }
-        let ptrs: Vec<(u64, P0)> = self.oracle.iter_combined().map(|(p, t, _)| (*t, p)).collect();
+        let ptrs: Vec<(u64, P0)> = self.oracle.iter_combined().map(|(p, t, _)| (t.0, p)).collect();
         same("frames after compression", rows.len(), ptrs.len())?;
         let (rows, ptrs) = (by_payload(rows)?, by_payload(ptrs)?);
         let old = std::mem::take(&mut self.frames);
         self.frames = vec![None; old.len()];
         self.forget();
         for (name, frame) in old.into_iter().enumerate() {
-            let Some(payload) = frame.map(|frame| frame.payload) else { continue };
-            match (rows.get(&payload), ptrs.get(&payload)) {
-                (Some(key), Some(ptr)) => self.learn(name, *key, *ptr, payload)?,
+            let Some(picture) = frame.map(|frame| frame.picture) else { continue };
+            match (rows.get(&picture.0), ptrs.get(&picture.0)) {
+                (Some(key), Some(ptr)) => self.learn(name, *key, *ptr, picture)?,
                 (None, None) => (),
-                (key, ptr) => return Err(format!("payload {payload}: archive {key:?}, oracle {ptr:?}")),
+                (key, ptr) => return Err(format!("payload and size {picture:?}: archive {key:?}, oracle {ptr:?}")),
             }
         }
         if self.fault == Fault::MapCrossed {

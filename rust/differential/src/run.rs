@@ -93,7 +93,7 @@ impl Way {
 fn renamed(case: &Case) -> Case {
     let mut names = vec![];
     for call in &case.calls {
-        if let Call::InsertSurject(name, ..) | Call::Insert(_, name, _) = call {
+        if let Call::InsertSurject(name, ..) | Call::Insert(_, name, ..) = call {
             names.push(*name);
         }
     }
@@ -106,8 +106,8 @@ fn renamed(case: &Case) -> Case {
         Call::Set(k, n) => Call::Set(name(k), n),
         Call::SetShared(k, n) => Call::SetShared(name(k), n),
         Call::Exchange(keys, values) => Call::Exchange(keys.map(name), values),
-        Call::InsertSurject(new, payload, value) => Call::InsertSurject(name(new), payload, value),
-        Call::Insert(at, new, payload) => Call::Insert(name(at), name(new), payload),
+        Call::InsertSurject(new, payload, value, size) => Call::InsertSurject(name(new), payload, value, size),
+        Call::Insert(at, new, payload, size) => Call::Insert(name(at), name(new), payload, size),
         Call::Union(j, k) => Call::Union(name(j), name(k)),
         Call::RemoveElement(k) => Call::RemoveElement(name(k)),
         Call::RemoveShared(k) => Call::RemoveShared(name(k)),
@@ -115,6 +115,8 @@ fn renamed(case: &Case) -> Case {
         Call::Drain(k) => Call::Drain(name(k)),
         Call::Seal(k) => Call::Seal(name(k)),
         Call::Lookup(k) => Call::Lookup(name(k)),
+        Call::GetSize(k) => Call::GetSize(name(k)),
+        Call::GetTotal(k) => Call::GetTotal(name(k)),
         Call::Fresh | Call::Check | Call::DrainAll | Call::Clear | Call::Compress(_) | Call::CompressWith(_) => *call,
     });
     Case { calls: calls.collect(), ..case.clone() }

@@ -23,7 +23,8 @@
 //! | 18 compress_canonical | | 1 for a reset, else 0 | |
 //!
 //! A frame's payload is its name whenever tables are compressed, so that keys can be learned again from payloads. Seals,
-//! compressions in slot order and lookups are not in a sample, and causes neither: the program that replays it knows none.
+//! compressions in slot order, lookups and reads of sizes and totals are not in a sample, and causes neither: the program that
+//! replays it knows none. Every frame's size is 0, and stands in no record.
 
 use crate::calls::{Call, Case, NEVER, Name};
 use crate::generate::{Random, apart};
@@ -79,8 +80,8 @@ fn next(pair: &Pair, names: &mut usize, r: &mut Random) -> Vec<Call> {
         *names += 1;
         let new = *names;
         return vec![match r.below(2) {
-            0 if !live.is_empty() => Call::Insert(k, new, new as u64),
-            _ => Call::InsertSurject(new, new as u64, value),
+            0 if !live.is_empty() => Call::Insert(k, new, new as u64, 0),
+            _ => Call::InsertSurject(new, new as u64, value, 0),
         }];
     }
     vec![match r.below(20) {
@@ -115,6 +116,7 @@ fn answered(pair: &Pair, call: &Call) -> (u64, Vec<u64>) {
     let ptr = |name: Name| pair.keys(name).1;
     let dead = |names: &[Name]| names.iter().any(|name| !a.contains(ptr(*name)));
     let len = |name: Name| a.len_surject(ptr(name)).unwrap().get() as u64;
+    let payload = |name: Name| a.get(ptr(name)).unwrap().0;
     let value = |name: Name| *a.get_shared(ptr(name)).unwrap();
     let ring = |name: Name| a.iter_surject(ptr(name)).unwrap().map(|(p, _, _)| pair.name_of_ptr(p) as u64).collect();
     let same = |j: Name, k: Name| a.in_same_surject(ptr(j), ptr(k)) == Some(true);
@@ -124,7 +126,7 @@ fn answered(pair: &Pair, call: &Call) -> (u64, Vec<u64>) {
     let answers = match *call {
         Call::LenSurject(k) => vec![len(k)],
         Call::InSameSurject(j, k) => vec![same(j, k) as u64],
-        Call::Get(k) | Call::Set(k, _) => vec![*a.get(ptr(k)).unwrap()],
+        Call::Get(k) | Call::Set(k, _) => vec![payload(k)],
         Call::GetShared(k) | Call::SetShared(k, _) | Call::RemoveShared(k) => vec![value(k)],
         Call::Exchange(keys, _) => {
             if (0..4).any(|i| (0..i).any(|j| same(keys[i], keys[j]))) {
@@ -139,8 +141,8 @@ fn answered(pair: &Pair, call: &Call) -> (u64, Vec<u64>) {
             // known when it is made
             vec![]
         }
-        Call::RemoveElement(k) if len(k) == 1 => vec![*a.get(ptr(k)).unwrap(), 1, value(k)],
-        Call::RemoveElement(k) => vec![*a.get(ptr(k)).unwrap(), 0, 0],
+        Call::RemoveElement(k) if len(k) == 1 => vec![payload(k), 1, value(k)],
+        Call::RemoveElement(k) => vec![payload(k), 0, 0],
         Call::List(k) => ring(k),
         Call::Drain(k) => {
             let mut out: Vec<u64> = ring(k);
@@ -161,13 +163,16 @@ fn push(bytes: &mut Vec<u8>, call: &Call, refusal: u64, answers: &[u64]) {
         Call::InSameSurject(j, k) | Call::Union(j, k) => (&[*j, *k], &[]),
         Call::Exchange(keys, values) => (keys, values),
         Call::Set(k, n) | Call::SetShared(k, n) => (&[*k], &[*n]),
-        Call::InsertSurject(new, payload, value) => (&[*new], &[*payload, *value]),
-        Call::Insert(at, new, payload) => (&[*at, *new], &[*payload]),
+        Call::InsertSurject(new, payload, value, 0) => (&[*new], &[*payload, *value]),
+        Call::Insert(at, new, payload, 0) => (&[*at, *new], &[*payload]),
+        Call::InsertSurject(..) | Call::Insert(..) => unreachable!("sizes of a sample are 0"),
         Call::LenSurject(k) | Call::Get(k) | Call::GetShared(k) => (&[*k], &[]),
         Call::RemoveElement(k) | Call::RemoveShared(k) | Call::List(k) | Call::Drain(k) => (&[*k], &[]),
         Call::Compress(reset) => (&[], &[*reset as u64]),
         Call::Fresh | Call::Check | Call::DrainAll | Call::Clear => (&[], &[]),
-        Call::Seal(_) | Call::CompressWith(_) | Call::Lookup(_) => unreachable!("a sample has no such call"),
+        Call::Seal(_) | Call::CompressWith(_) | Call::Lookup(_) | Call::GetSize(_) | Call::GetTotal(_) => {
+            unreachable!("a sample has no such call")
+        }
     };
     for (byte, name) in record[1..5].iter_mut().zip(names) {
         *byte = u8::try_from(*name).unwrap_or(255);

@@ -22,7 +22,7 @@ impl Pair {
             same("seal", said, Some(self.dead(&[k])))?;
             return Ok(said);
         };
-        let mut wanted: Vec<(Name, u64)> = ring.map(|(p, t, _)| (self.name_of_ptr(p), *t)).collect();
+        let mut wanted: Vec<(Name, u64)> = ring.map(|(p, t, _)| (self.name_of_ptr(p), t.0)).collect();
         let mut places = vec![0; wanted.len() * SEAL_PLACE];
         if self.is_sealed(k) {
             return refused_12("seal", self.port.seal_into(key, &mut places).err());

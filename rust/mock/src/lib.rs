@@ -45,10 +45,11 @@ unsafe fn enter(
     }
 }
 
-/// An entry: head and tables, then the arguments of its own, then a lent buffer and `out` where it has them.
+/// An entry: head and tables, then the arguments of its own, a size last, then a lent buffer and `out` where it has them.
 macro_rules! entry {
     ($name:ident ($($arg:ident),*) => $call:expr) => { entry!(@ $name ($($arg),*) () (out: *mut u64) $call, std::ptr::null_mut(), 0, out); };
     ($name:ident ($($arg:ident),*) lent => $call:expr) => { entry!(@ $name ($($arg),*) (lent: *mut u64, lent_len: usize) (out: *mut u64) $call, lent, lent_len, out); };
+    ($name:ident ($($arg:ident),*) $size:ident: u32 => $call:expr) => { entry!(@ $name ($($arg),*) ($size: u32) (out: *mut u64) $call, std::ptr::null_mut(), 0, out); };
     (@ $name:ident ($($arg:ident),*) ($($lent:ident: $ty:ty),*) ($($out:ident: $oty:ty)?) $call:expr, $l:expr, $n:expr, $o:expr) => {
         #[unsafe(no_mangle)]
         pub unsafe extern "C" fn $name(
@@ -129,12 +130,14 @@ entry!(doorsedge_len_surject(slot, generation) => Call::LenSurject(key(slot, gen
 entry!(doorsedge_in_same_surject(slot0, generation0, slot1, generation1) => Call::InSameSurject(key(slot0, generation0), key(slot1, generation1)));
 entry!(doorsedge_get(slot, generation) => Call::Get(key(slot, generation)));
 entry!(doorsedge_get_shared(slot, generation) => Call::GetShared(key(slot, generation)));
+entry!(doorsedge_get_size(slot, generation) => Call::GetSize(key(slot, generation)));
+entry!(doorsedge_get_total(slot, generation) => Call::GetTotal(key(slot, generation)));
 entry!(doorsedge_list(slot, generation) lent => Call::List(key(slot, generation)));
 entry!(doorsedge_seal(slot, generation) lent => Call::Seal(key(slot, generation)));
 entry!(doorsedge_set(slot, generation, payload) => Call::Set(key(slot, generation), payload));
 entry!(doorsedge_set_shared(slot, generation, value) => Call::SetShared(key(slot, generation), value));
-entry!(doorsedge_insert_surject(payload, value) => Call::InsertSurject { payload, value });
-entry!(doorsedge_insert(slot, generation, payload) => Call::Insert(key(slot, generation), payload));
+entry!(doorsedge_insert_surject(payload, value) size: u32 => Call::InsertSurject { payload, value, size });
+entry!(doorsedge_insert(slot, generation, payload) size: u32 => Call::Insert(key(slot, generation), payload, size));
 entry!(doorsedge_union(slot0, generation0, slot1, generation1) => Call::Union(key(slot0, generation0), key(slot1, generation1)));
 entry!(doorsedge_remove_element(slot, generation) => Call::RemoveElement(key(slot, generation)));
 entry!(doorsedge_remove_shared(slot, generation) => Call::RemoveShared(key(slot, generation)));
@@ -143,5 +146,5 @@ entry!(doorsedge_drain_all() lent => Call::DrainAll);
 entry!(doorsedge_clear() => Call::Clear);
 entry!(doorsedge_compress_canonical(reset) lent => Call::CompressCanonical { reset });
 entry!(doorsedge_compress_with(reset) lent => Call::CompressWith { reset });
-entry!(doorsedge_insert_in_place(slot, generation, payload) => Call::Insert(key(slot, generation), payload));
+entry!(doorsedge_insert_in_place(slot, generation, payload) size: u32 => Call::Insert(key(slot, generation), payload, size));
 entry!(doorsedge_remove_in_place(slot, generation) => Call::RemoveElement(key(slot, generation)));

@@ -27,12 +27,12 @@ fn zeros(table: &[u64]) -> bool {
     table.iter().fold(0, |or, number| or | number) == 0
 }
 
-/// The zeros and the marks of the shared slots.
+/// The zeros and the marks of the shared slots. What a total must be, its ring's walk tells.
 fn headers_ok(head: &Head, shared: &[u64]) -> bool {
     let (used, past) = shared.split_at(head.shared.extent as usize * HEADER);
     for row in used.chunks_exact(HEADER) {
         if row[COUNT] == 0 {
-            if row[VALUE] != 0 || row[MARK] != 0 {
+            if row[VALUE] != 0 || row[MARK] != 0 || row[TOTAL] != 0 {
                 return false;
             }
         } else if row[NEXT_FREE] != 0 || row[MARK] > 1 {
@@ -75,7 +75,7 @@ fn scan(head: &Head, elems: &[u64], shared: &[u64], marked: &mut [u64]) -> bool 
     for slot in 1..=head.elems.extent {
         let row = frame(elems, slot);
         if row[GENERATION] == 0 {
-            if row[PAYLOAD] != 0 || row[CLASS] != 0 || row[PREVIOUS] != 0 {
+            if row[PAYLOAD] != 0 || row[CLASS] != 0 || row[PREVIOUS] != 0 || row[SIZE] != 0 {
                 return false;
             }
             continue;
@@ -89,11 +89,11 @@ fn scan(head: &Head, elems: &[u64], shared: &[u64], marked: &mut [u64]) -> bool 
             continue;
         }
         marked[word] |= 1 << bit;
-        let count = shared[(class as usize - 1) * HEADER + COUNT];
-        if !ring_ok(elems, head.elems.extent, slot, class, count) {
+        let header = &shared[(class as usize - 1) * HEADER..][..HEADER];
+        if ring_bytes(elems, head.elems.extent, slot, class, header[COUNT]) != Some(header[TOTAL]) {
             return false;
         }
-        met += count;
+        met += header[COUNT];
         rings += 1;
     }
     met == head.elems.live && rings == head.shared.live
@@ -103,21 +103,23 @@ fn frame(elems: &[u64], slot: u64) -> &[u64; FRAME] {
     elems[(slot as usize - 1) * FRAME..][..FRAME].try_into().unwrap()
 }
 
-/// The start comes back for the first time after exactly `count` frames, all of one class, previous undoing next.
-fn ring_ok(elems: &[u64], extent: u64, start: u64, class: u64, count: u64) -> bool {
-    let (mut slot, mut left) = (start, count);
+/// The sizes around the ring, summed, if the start comes back for the first time after exactly `count` frames, all of one class,
+/// previous undoing next.
+fn ring_bytes(elems: &[u64], extent: u64, start: u64, class: u64, count: u64) -> Option<u64> {
+    let (mut slot, mut left, mut bytes) = (start, count, 0);
     loop {
         let row = frame(elems, slot);
-        if left == 0 || !in_range(row[GENERATION]) || row[CLASS] != class {
-            return false;
+        if left == 0 || !in_range(row[GENERATION]) || row[CLASS] != class || row[SIZE] > MOST_BYTES {
+            return None;
         }
         let next = row[NEXT];
         if next == 0 || next > extent || frame(elems, next)[PREVIOUS] != slot {
-            return false;
+            return None;
         }
         left -= 1;
+        bytes += row[SIZE];
         if next == start {
-            return left == 0;
+            return (left == 0).then_some(bytes);
         }
         slot = next;
     }

@@ -15,18 +15,22 @@ pub enum Call {
     InSameSurject(Key, Key),
     Get(Key),
     GetShared(Key),
+    GetSize(Key),
+    GetTotal(Key),
     Set(Key, u64),
     SetShared(Key, u64),
     ExchangeShared4([Key; 4], [u64; 4]),
     InsertSurject {
         payload: u64,
         value: u64,
+        size: u32,
     },
-    Insert(Key, u64),
+    /// At the key: payload and size.
+    Insert(Key, u64, u32),
     Union(Key, Key),
     RemoveElement(Key),
     /// Insert and removal with the head lent in place: the same calls by other entries.
-    InsertInPlace(Key, u64),
+    InsertInPlace(Key, u64, u32),
     RemoveInPlace(Key),
     RemoveShared(Key),
     List(Key),
@@ -43,7 +47,7 @@ pub enum Call {
 }
 
 /// How many kinds of calls there are.
-pub const KINDS: usize = 24;
+pub const KINDS: usize = 26;
 
 impl Call {
     /// The entry's name in C, without its prefix; and how many numbers its `out` has.
@@ -56,6 +60,8 @@ impl Call {
             Call::InSameSurject(..) => ("in_same_surject", 1),
             Call::Get(_) => ("get", 1),
             Call::GetShared(_) => ("get_shared", 1),
+            Call::GetSize(_) => ("get_size", 1),
+            Call::GetTotal(_) => ("get_total", 1),
             Call::Set(..) => ("set", 1),
             Call::SetShared(..) => ("set_shared", 1),
             Call::ExchangeShared4(..) => ("exchange_shared4", 4),
@@ -147,11 +153,13 @@ pub fn said(rows: &mut Rows, call: &Call, lent: &mut [u64]) -> Result<[u64; 4], 
         Call::InSameSurject(j, k) => one(rows.in_same_surject(j, k)? as u64),
         Call::Get(k) => one(rows.get(k)?),
         Call::GetShared(k) => one(rows.get_shared(k)?),
+        Call::GetSize(k) => one(rows.get_size(k)?),
+        Call::GetTotal(k) => one(rows.get_total(k)?),
         Call::Set(k, payload) => one(rows.set(k, payload)?),
         Call::SetShared(k, value) => one(rows.set_shared(k, value)?),
         Call::ExchangeShared4(keys, values) => rows.exchange_shared4(keys, values)?,
-        Call::InsertSurject { payload, value } => key(rows.insert_surject(payload, value)?),
-        Call::Insert(k, payload) | Call::InsertInPlace(k, payload) => key(rows.insert(k, payload)?),
+        Call::InsertSurject { payload, value, size } => key(rows.insert_surject(payload, value, size)?),
+        Call::Insert(k, payload, size) | Call::InsertInPlace(k, payload, size) => key(rows.insert(k, payload, size)?),
         Call::Union(j, k) => {
             let joined = rows.union(j, k)?;
             [joined.was, joined.kept.slot, joined.kept.generation, joined.moved]

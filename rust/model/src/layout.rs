@@ -2,10 +2,10 @@
 
 /// Numbers to a head.
 pub const HEAD: usize = 9;
-/// Numbers to an element slot: generation, payload, class, previous, next.
-pub const FRAME: usize = 5;
-/// Numbers to a shared slot: count, value, next free, mark.
-pub const HEADER: usize = 4;
+/// Numbers to an element slot: generation, payload, class, previous, next, size.
+pub const FRAME: usize = 6;
+/// Numbers to a shared slot: count, value, next free, mark, total.
+pub const HEADER: usize = 5;
 /// Numbers to a place that a listing writes: slot, generation.
 pub const PLACE: usize = 2;
 /// Numbers to a place that a seal writes: slot, generation, payload.
@@ -20,15 +20,21 @@ pub const PAYLOAD: usize = 1;
 pub const CLASS: usize = 2;
 pub const PREVIOUS: usize = 3;
 pub const NEXT: usize = 4;
+/// The frame's bytes.
+pub const SIZE: usize = 5;
 
 pub const COUNT: usize = 0;
 pub const VALUE: usize = 1;
 pub const NEXT_FREE: usize = 2;
 /// 1 where the run is sealed, else 0.
 pub const MARK: usize = 3;
+/// The bytes of the run's frames, summed.
+pub const TOTAL: usize = 4;
 
 pub const MOST_SLOTS: u64 = 65_536;
 pub const LAST_GENERATION: u64 = 4_294_967_295;
+/// The greatest size of a frame.
+pub const MOST_BYTES: u64 = 4_294_967_295;
 
 #[derive(Clone, Copy, PartialEq, Eq, Debug)]
 pub struct Pool {

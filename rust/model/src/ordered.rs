@@ -26,7 +26,7 @@ impl Rows<'_> {
         for (at, new) in live(slots) {
             let row = &self.elems[at * FRAME..][..FRAME];
             let (class, previous, next) = (of(classes, row[CLASS]), of(slots, row[PREVIOUS]), of(slots, row[NEXT]));
-            let moved = [generation, row[PAYLOAD], class, previous, next];
+            let moved = [generation, row[PAYLOAD], class, previous, next, row[SIZE]];
             pairs.next().unwrap().copy_from_slice(&[at as u64 + 1, row[GENERATION], new, generation]);
             self.elems[(new as usize - 1) * FRAME..][..FRAME].copy_from_slice(&moved);
         }

@@ -102,13 +102,13 @@ impl Rows<'_> {
     }
 
     pub(crate) fn free_element(&mut self, slot: u64) {
-        self.put_frame(slot, [0, 0, 0, 0, self.head.elems.root]);
+        self.put_frame(slot, [0, 0, 0, 0, self.head.elems.root, 0]);
         self.head.elems.root = slot;
         self.head.elems.live -= 1;
     }
 
     pub(crate) fn free_shared(&mut self, slot: u64) {
-        self.put_shared(slot, [0, 0, self.head.shared.root, 0]);
+        self.put_shared(slot, [0, 0, self.head.shared.root, 0, 0]);
         self.head.shared.root = slot;
         self.head.shared.live -= 1;
     }
@@ -135,6 +135,16 @@ impl Rows<'_> {
 
     pub fn get_shared(&self, key: Key) -> Result<u64, Refusal> {
         Ok(self.header(self.class(self.find(key)?), VALUE))
+    }
+
+    /// The frame's bytes.
+    pub fn get_size(&self, key: Key) -> Result<u64, Refusal> {
+        Ok(self.elem(self.find(key)?, SIZE))
+    }
+
+    /// The bytes of the key's run.
+    pub fn get_total(&self, key: Key) -> Result<u64, Refusal> {
+        Ok(self.header(self.class(self.find(key)?), TOTAL))
     }
 
     pub fn set(&mut self, key: Key, payload: u64) -> Result<u64, Refusal> {
@@ -171,7 +181,7 @@ impl Rows<'_> {
 
     // ---- frames in and out
 
-    pub fn insert_surject(&mut self, payload: u64, value: u64) -> Result<Key, Refusal> {
+    pub fn insert_surject(&mut self, payload: u64, value: u64, size: u32) -> Result<Key, Refusal> {
         if self.head.shared.is_full() {
             return Err(Refusal::NoShared);
         }
@@ -181,13 +191,13 @@ impl Rows<'_> {
         let c = self.take_shared();
         let x = self.take_element();
         let generation = self.head.generation;
-        self.put_shared(c, [1, value, 0, 0]);
-        self.put_frame(x, [generation, payload, c, x, x]);
+        self.put_shared(c, [1, value, 0, 0, size.into()]);
+        self.put_frame(x, [generation, payload, c, x, x, size.into()]);
         Ok(Key { slot: x, generation })
     }
 
     /// The new frame stands immediately after the key's.
-    pub fn insert(&mut self, key: Key, payload: u64) -> Result<Key, Refusal> {
+    pub fn insert(&mut self, key: Key, payload: u64, size: u32) -> Result<Key, Refusal> {
         let x = self.find(key)?;
         self.unsealed(x)?;
         if self.head.elems.is_full() {
@@ -195,10 +205,11 @@ impl Rows<'_> {
         }
         let y = self.take_element();
         let (c, after, generation) = (self.class(x), self.elem(x, NEXT), self.head.generation);
-        self.put_frame(y, [generation, payload, c, x, after]);
+        self.put_frame(y, [generation, payload, c, x, after, size.into()]);
         self.put_elem(x, NEXT, y);
         self.put_elem(after, PREVIOUS, y);
         self.put_header(c, COUNT, self.header(c, COUNT) + 1);
+        self.put_header(c, TOTAL, self.header(c, TOTAL) + u64::from(size));
         Ok(Key { slot: y, generation })
     }
 
@@ -226,6 +237,7 @@ impl Rows<'_> {
         self.put_elem(y, NEXT, after_x);
         self.put_elem(after_x, PREVIOUS, y);
         self.put_header(c, COUNT, self.header(c, COUNT) + moved);
+        self.put_header(c, TOTAL, self.header(c, TOTAL) + self.header(d, TOTAL));
         let was = self.header(d, VALUE);
         self.free_shared(d);
         Ok(Joined { was, kept, moved })
@@ -238,7 +250,7 @@ impl Rows<'_> {
 
     /// The frame in a live slot leaves its ring, and the last one takes its header along.
     pub(crate) fn remove_at(&mut self, x: u64) -> Removed {
-        let (c, payload) = (self.class(x), self.elem(x, PAYLOAD));
+        let (c, payload, size) = (self.class(x), self.elem(x, PAYLOAD), self.elem(x, SIZE));
         let (before, after) = (self.elem(x, PREVIOUS), self.elem(x, NEXT));
         self.put_elem(before, NEXT, after);
         self.put_elem(after, PREVIOUS, before);
@@ -250,6 +262,7 @@ impl Rows<'_> {
             Some(value)
         } else {
             self.put_header(c, COUNT, count - 1);
+            self.put_header(c, TOTAL, self.header(c, TOTAL) - size);
             None
         };
         let overflow = self.head.raise();

@@ -1,5 +1,5 @@
-//! Soundness sentence by sentence, as document 01's "Tables and head" has it, and document 02's tickets 1 of the mark and 4
-//! of the free chain, by sets: slow, and no algorithm in it.
+//! Soundness sentence by sentence, as document 01's "Tables and head" has it, and document 02's tickets 1 of the mark, 4
+//! of the free chain and 6 of sizes and totals, by sets: slow, and no algorithm in it.
 
 use crate::layout::*;
 use std::collections::{BTreeMap, BTreeSet};
@@ -23,6 +23,8 @@ pub fn sound(head: &Head, elems: &[u64], shared: &[u64]) -> bool {
         && headers.iter().all(|&c| [0, 1].contains(&s.at(c, MARK)))
         // a live slot's generation is in range
         && frames.iter().all(|&x| in_range(e.at(x, GENERATION)))
+        // a size is a u32
+        && frames.iter().all(|&x| u32::try_from(e.at(x, SIZE)).is_ok())
         && links_ok(&e, &frames)
         // every frame's class slot is live
         && frames.iter().all(|&x| headers.contains(&e.at(x, CLASS)))
@@ -91,10 +93,10 @@ fn links_ok(e: &Side, frames: &BTreeSet<u64>) -> bool {
 }
 
 /// All frames of a ring have one class slot; two rings never share one; every live shared slot has a ring, and its count
-/// is that ring's size.
+/// is that ring's size, its total the sum of that ring's bytes.
 fn rings_ok(e: &Side, s: &Side, frames: &BTreeSet<u64>, headers: &BTreeSet<u64>) -> bool {
     let mut left = frames.clone();
-    let mut size_of = BTreeMap::new();
+    let mut found = BTreeMap::new();
     while let Some(&start) = left.iter().next_back() {
         let class = e.at(start, CLASS);
         let mut ring = BTreeSet::new();
@@ -103,9 +105,11 @@ fn rings_ok(e: &Side, s: &Side, frames: &BTreeSet<u64>, headers: &BTreeSet<u64>)
             left.remove(&x);
             x = e.at(x, NEXT);
         }
-        if ring.iter().any(|&x| e.at(x, CLASS) != class) || size_of.insert(class, ring.len() as u64).is_some() {
+        let bytes: u64 = ring.iter().map(|&x| e.at(x, SIZE)).sum();
+        let header = (ring.len() as u64, bytes);
+        if ring.iter().any(|&x| e.at(x, CLASS) != class) || found.insert(class, header).is_some() {
             return false;
         }
     }
-    headers.iter().all(|c| size_of.get(c) == Some(&s.at(*c, COUNT)))
+    headers.iter().all(|c| found.get(c) == Some(&(s.at(*c, COUNT), s.at(*c, TOTAL))))
 }

@@ -128,13 +128,13 @@ impl Rows<'_> {
             }
             let c = self.class(lowest);
             let size = self.header(c, COUNT);
-            headers.extend([size, self.header(c, VALUE), 0, self.header(c, MARK)]);
+            headers.extend([size, self.header(c, VALUE), 0, self.header(c, MARK), self.header(c, TOTAL)]);
             let (class, first, last) = (headers.len() as u64 / HEADER as u64, at + 1, at + size);
             let mut x = lowest;
             for new in first..=last {
                 let previous = if new == first { last } else { new - 1 };
                 let next = if new == last { first } else { new + 1 };
-                let row = [generation, self.elem(x, PAYLOAD), class, previous, next];
+                let row = [generation, self.elem(x, PAYLOAD), class, previous, next, self.elem(x, SIZE)];
                 rows[(new as usize - 1) * FRAME..][..FRAME].copy_from_slice(&row);
                 self.put_elem(x, GENERATION, 0);
                 x = self.elem(x, NEXT);

@@ -1,7 +1,7 @@
 //! Document 01's worked numbers, P1 to P12, and its traps, on the model.
 
 use model::door::{Call, run};
-use model::layout::MARK;
+use model::layout::{MARK, SIZE, TOTAL};
 use model::{FRAME, HEADER, Key, PAIR, SEAL_PLACE, check, sets};
 
 #[derive(Clone)]
@@ -48,15 +48,15 @@ fn dead(cause: u64) -> u64 {
 }
 
 fn new_run(payload: u64, value: u64) -> Call {
-    Call::InsertSurject { payload, value }
+    Call::InsertSurject { payload, value, size: 0 }
 }
 
 #[test]
 fn p1_to_p10() {
     let mut host = Host::fresh(4, 3);
     assert_eq!(host.call(new_run(10, 100)), (0, vec![1, 1]));
-    assert_eq!(host.call(Call::Insert(key(1, 1), 11)), (0, vec![2, 1]));
-    assert_eq!(host.call(Call::Insert(key(1, 1), 12)), (0, vec![3, 1]));
+    assert_eq!(host.call(Call::Insert(key(1, 1), 11, 0)), (0, vec![2, 1]));
+    assert_eq!(host.call(Call::Insert(key(1, 1), 12, 0)), (0, vec![3, 1]));
     assert_eq!(host.ring(key(1, 1)), [1, 3, 2]);
     assert_eq!(host.call(Call::LenSurject(key(2, 1))), (0, vec![3]));
     assert_eq!(host.call(new_run(20, 200)), (0, vec![4, 1]));
@@ -75,10 +75,10 @@ fn p1_to_p10() {
     assert_eq!(host.lent(Call::Drain(key(3, 1)), &mut records), (0, vec![3]));
     assert_eq!(records, [3, 1, 12, 0, 0, 0, 2, 1, 11, 0, 0, 0, 1, 1, 10, 1, 100, 0]);
     assert_eq!(host.head[8], 6);
-    let mut scratch = [9; 21];
+    let mut scratch = [9; 4 * FRAME + 1];
     assert_eq!(host.lent(Call::CompressCanonical { reset: 0 }, &mut scratch), (0, vec![0]));
-    assert_eq!(scratch[..20], [0; 20]);
-    assert_eq!(scratch[20], 9);
+    assert_eq!(scratch[..4 * FRAME], [0; 4 * FRAME]);
+    assert_eq!(scratch[4 * FRAME], 9);
     assert_eq!(host.head, [4, 0, 0, 0, 3, 0, 0, 0, 7]);
     assert!(host.elems.iter().chain(&host.shared).all(|&n| n == 0));
 }
@@ -89,16 +89,16 @@ fn p11() -> Host {
     assert_eq!(host.call(new_run(10, 100)), (0, vec![1, 1]));
     assert_eq!(host.call(new_run(20, 200)), (0, vec![2, 1]));
     assert_eq!(host.call(Call::RemoveElement(key(1, 1))), (0, vec![10, 1, 100, 0]));
-    assert_eq!(host.call(Call::Insert(key(2, 1), 21)), (0, vec![1, 2]));
+    assert_eq!(host.call(Call::Insert(key(2, 1), 21, 0)), (0, vec![1, 2]));
     host
 }
 
 #[test]
 fn p11_and_p12() {
     let mut host = p11();
-    assert_eq!(host.lent(Call::CompressCanonical { reset: 0 }, &mut [0; 20]), (0, vec![0]));
-    assert_eq!(host.elems[..10], [3, 21, 1, 2, 2, 3, 20, 1, 1, 1]);
-    assert_eq!(host.shared, [[2, 200, 0, 0], [0; HEADER], [0; HEADER]].concat());
+    assert_eq!(host.lent(Call::CompressCanonical { reset: 0 }, &mut [0; 4 * FRAME]), (0, vec![0]));
+    assert_eq!(host.elems[..2 * FRAME], [3, 21, 1, 2, 2, 0, 3, 20, 1, 1, 1, 0]);
+    assert_eq!(host.shared, [[2, 200, 0, 0, 0], [0; HEADER], [0; HEADER]].concat());
     assert_eq!(host.head, [4, 2, 0, 2, 3, 1, 0, 1, 3]);
 
     let mut host = Host::fresh(4, 3);
@@ -113,8 +113,8 @@ fn p11_and_p12() {
 fn mixed_rings_are_unsound() {
     let mut host = Host {
         head: [4, 4, 0, 4, 3, 2, 0, 2, 1],
-        elems: vec![1, 0, 1, 2, 2, 1, 0, 2, 1, 1, 1, 0, 1, 4, 4, 1, 0, 2, 3, 3],
-        shared: [[2, 0, 0, 0], [2, 0, 0, 0], [0; HEADER]].concat(),
+        elems: [[1, 0, 1, 2, 2, 0], [1, 0, 2, 1, 1, 0], [1, 0, 1, 4, 4, 0], [1, 0, 2, 3, 3, 0]].concat(),
+        shared: [[2, 0, 0, 0, 0], [2, 0, 0, 0, 0], [0; HEADER]].concat(),
     };
     assert_eq!(host.call(Call::Check), (2, vec![]));
     host.elems[FRAME + 2] = 1;
@@ -161,7 +161,7 @@ fn causes() {
 #[test]
 fn seal() {
     let mut host = Host::fresh(4, 3);
-    for call in [new_run(10, 100), Call::Insert(key(1, 1), 11), Call::Insert(key(1, 1), 12), new_run(20, 200)] {
+    for call in [new_run(10, 100), Call::Insert(key(1, 1), 11, 0), Call::Insert(key(1, 1), 12, 0), new_run(20, 200)] {
         assert_eq!(host.call(call).0, 0);
     }
     let mut places = [9; 3 * SEAL_PLACE + 1];
@@ -169,13 +169,13 @@ fn seal() {
     assert_eq!((places, host.shared[MARK]), ([9; 10], 0));
     assert_eq!(host.lent(Call::Seal(key(3, 1)), &mut places), (0, vec![100, 3]));
     assert_eq!(places, [3, 1, 12, 2, 1, 11, 1, 1, 10, 9]);
-    assert_eq!(host.shared, [[3, 100, 0, 1], [1, 200, 0, 0], [0; HEADER]].concat());
+    assert_eq!(host.shared, [[3, 100, 0, 1, 0], [1, 200, 0, 0, 0], [0; HEADER]].concat());
     for (call, number) in [
-        (Call::Insert(key(2, 2), 13), dead(3)),
+        (Call::Insert(key(2, 2), 13, 0), dead(3)),
         (Call::Union(key(1, 1), key(5, 1)), dead(1)),
         (Call::Union(key(1, 1), key(2, 1)), 4),
-        (Call::Insert(key(2, 1), 13), 12),
-        (Call::Insert(key(4, 1), 13), 5),
+        (Call::Insert(key(2, 1), 13, 0), 12),
+        (Call::Insert(key(4, 1), 13, 0), 5),
         (Call::Union(key(1, 1), key(4, 1)), 12),
         (Call::Union(key(4, 1), key(1, 1)), 12),
         (Call::Seal(key(4, 2)), dead(3)),
@@ -190,34 +190,34 @@ fn seal() {
 #[test]
 fn the_mark() {
     let mut host = Host::fresh(4, 3);
-    for call in [new_run(10, 100), new_run(20, 200), Call::Insert(key(2, 1), 21)] {
+    for call in [new_run(10, 100), new_run(20, 200), Call::Insert(key(2, 1), 21, 0)] {
         assert_eq!(host.call(call).0, 0);
     }
     assert_eq!(host.lent(Call::Seal(key(2, 1)), &mut [0; 6]).0, 0);
     assert_eq!(host.call(Call::RemoveElement(key(1, 1))).0, 0);
-    assert_eq!(host.lent(Call::CompressCanonical { reset: 0 }, &mut [0; 20]).0, 0);
-    assert_eq!(host.shared[..HEADER], [2, 200, 0, 1]);
+    assert_eq!(host.lent(Call::CompressCanonical { reset: 0 }, &mut [0; 4 * FRAME]).0, 0);
+    assert_eq!(host.shared[..HEADER], [2, 200, 0, 1, 0]);
     let (mut cleared, mut freshened) = (host.clone(), host.clone());
     assert_eq!(cleared.call(Call::Clear).0, 0);
     assert_eq!(freshened.call(Call::Fresh { elems: 4, shared: 3 }).0, 0);
     assert!(cleared.shared.iter().chain(&freshened.shared).all(|&n| n == 0));
     assert_eq!(host.call(Call::RemoveElement(key(1, 3))), (0, vec![20, 0, 0, 0]));
-    assert_eq!(host.shared[..HEADER], [1, 200, 0, 1]);
+    assert_eq!(host.shared[..HEADER], [1, 200, 0, 1, 0]);
     assert_eq!(host.call(Call::RemoveElement(key(2, 3))), (0, vec![21, 1, 200, 0]));
     assert_eq!(host.shared[..HEADER], [0; HEADER]);
     assert_eq!(host.call(new_run(30, 300)), (0, vec![2, 5]));
-    assert_eq!(host.shared[..HEADER], [1, 300, 0, 0]);
+    assert_eq!(host.shared[..HEADER], [1, 300, 0, 0, 0]);
 }
 
 /// Document 02's ticket 3: frames and headers move down in the order of their slots, with the keys from before and after.
 #[test]
 fn compress_with() {
     let mut host = Host::fresh(5, 4);
-    for call in [new_run(10, 100), new_run(20, 200), Call::Insert(key(2, 1), 21), new_run(30, 300)] {
+    for call in [new_run(10, 100), new_run(20, 200), Call::Insert(key(2, 1), 21, 0), new_run(30, 300)] {
         assert_eq!(host.call(call).0, 0);
     }
     assert_eq!(host.lent(Call::Seal(key(4, 1)), &mut [0; SEAL_PLACE]).0, 0);
-    for call in [Call::RemoveElement(key(1, 1)), Call::Insert(key(3, 1), 22), Call::RemoveElement(key(2, 1))] {
+    for call in [Call::RemoveElement(key(1, 1)), Call::Insert(key(3, 1), 22, 0), Call::RemoveElement(key(2, 1))] {
         assert_eq!(host.call(call).0, 0);
     }
     // ring 3, 1 under 200 in shared slot 2, and 4 under 300 in shared slot 3, sealed; slot 2 and the first header are free
@@ -227,9 +227,10 @@ fn compress_with() {
     assert_eq!((pairs, &host.elems, host.head), ([9; 13], &before.elems, before.head));
     assert_eq!(host.lent(Call::CompressWith { reset: 0 }, &mut pairs), (0, vec![3, 0]));
     assert_eq!(pairs, [1, 2, 1, 4, 3, 1, 2, 4, 4, 1, 3, 4, 9]);
-    assert_eq!(host.elems[..15], [4, 22, 1, 2, 2, 4, 21, 1, 1, 1, 4, 30, 2, 3, 3]);
-    assert_eq!(host.shared, [[2, 200, 0, 0], [1, 300, 0, 1], [0; HEADER], [0; HEADER]].concat());
-    assert_eq!((host.head, &host.elems[15..]), ([5, 3, 0, 3, 4, 2, 0, 2, 4], &[0; 10][..]));
+    let rows = [[4, 22, 1, 2, 2, 0], [4, 21, 1, 1, 1, 0], [4, 30, 2, 3, 3, 0]];
+    assert_eq!(host.elems[..3 * FRAME], rows.concat());
+    assert_eq!(host.shared, [[2, 200, 0, 0, 0], [1, 300, 0, 1, 0], [0; HEADER], [0; HEADER]].concat());
+    assert_eq!((host.head, &host.elems[3 * FRAME..]), ([5, 3, 0, 3, 4, 2, 0, 2, 4], &[0; 2 * FRAME][..]));
     let mut reset = before;
     reset.head[8] = 4_294_967_295;
     let mut over = reset.clone();
@@ -250,10 +251,65 @@ fn p11_under_both_compressions() {
             assert_eq!(canonical.call(call), (0, vec![3, 2]));
         }
         let mut ordered = canonical.clone();
-        assert_eq!(canonical.lent(Call::CompressCanonical { reset: 0 }, &mut [0; 20]).0, 0);
+        assert_eq!(canonical.lent(Call::CompressCanonical { reset: 0 }, &mut [0; 4 * FRAME]).0, 0);
         assert_eq!(ordered.lent(Call::CompressWith { reset: 0 }, &mut [0; 3 * PAIR]).0, 0);
         assert_eq!(canonical.head, ordered.head);
         assert_eq!((canonical.elems == ordered.elems, canonical.shared == ordered.shared), (alike, alike));
+    }
+}
+
+/// Document 02's ticket 6, the whole case with sizes: ring 1, 3, 2 of 1, 4 and 2 bytes, and 4 of the most. Totals through
+/// insert, union from either side, removals and both compressions.
+#[test]
+fn sizes_and_totals() {
+    let mut host = Host::fresh(4, 3);
+    let most = u64::from(u32::MAX);
+    for call in [
+        Call::InsertSurject { payload: 10, value: 100, size: 1 },
+        Call::Insert(key(1, 1), 11, 2),
+        Call::Insert(key(1, 1), 12, 4),
+        Call::InsertSurject { payload: 20, value: 200, size: u32::MAX },
+    ] {
+        assert_eq!(host.call(call).0, 0);
+    }
+    assert_eq!(host.shared, [[3, 100, 0, 0, 7], [1, 200, 0, 0, most], [0; HEADER]].concat());
+    for (slot, size, total) in [(1, 1, 7), (2, 2, 7), (3, 4, 7), (4, most, most)] {
+        assert_eq!(host.call(Call::GetSize(key(slot, 1))), (0, vec![size]));
+        assert_eq!(host.call(Call::GetTotal(key(slot, 1))), (0, vec![total]));
+    }
+    assert_eq!(host.call(Call::GetSize(key(4, 2))), (dead(3), vec![]));
+    assert_eq!(host.call(Call::GetTotal(key(5, 1))), (dead(1), vec![]));
+    let mut other = host.clone();
+    assert_eq!(host.call(Call::Union(key(4, 1), key(1, 1))).0, 0);
+    assert_eq!(other.call(Call::Union(key(1, 1), key(4, 1))).0, 0);
+    for host in [&mut host, &mut other] {
+        assert_eq!(host.shared[..HEADER], [4, 100, 0, 0, 7 + most]);
+        assert_eq!(host.call(Call::Set(key(4, 1), 21)), (0, vec![20]));
+        assert_eq!(host.call(Call::RemoveElement(key(1, 1))).0, 0);
+        assert_eq!(host.shared[..HEADER], [3, 100, 0, 0, 6 + most]);
+    }
+    assert_eq!(host.lent(Call::CompressCanonical { reset: 0 }, &mut [0; 4 * FRAME]).0, 0);
+    assert_eq!(other.lent(Call::CompressWith { reset: 0 }, &mut [0; 3 * PAIR]).0, 0);
+    let sizes = |host: &Host| host.elems.chunks(FRAME).map(|row| row[SIZE]).collect::<Vec<_>>();
+    assert_eq!((sizes(&host), host.shared[TOTAL]), (vec![2, most, 4, 0], 6 + most));
+    assert_eq!((sizes(&other), other.shared[TOTAL]), (vec![2, 4, most, 0], 6 + most));
+    for (slot, left) in [(2, 6), (1, 4), (3, 0)] {
+        assert_eq!(host.call(Call::RemoveElement(key(slot, 3))).0, 0);
+        assert_eq!(host.shared[TOTAL], left);
+    }
+    assert_eq!(sizes(&host), [0; 4]);
+}
+
+/// A total one off, and a size past a u32 with the total that goes with it.
+#[test]
+fn sizes_and_totals_that_are_unsound() {
+    let mut host = Host::fresh(2, 2);
+    assert_eq!(host.call(Call::InsertSurject { payload: 1, value: 2, size: u32::MAX }).0, 0);
+    for (size, total, number) in [(7, 7, 0), (7, 8, 2), (7, 6, 2), (0, 0, 0), (1 << 32, 1 << 32, 2), (1 << 32, 0, 2)] {
+        (host.elems[SIZE], host.shared[TOTAL]) = (size, total);
+        assert_eq!(host.call(Call::Check), (number, vec![]), "{size} {total}");
+        let linear = check::sound(&model::Head::of(&host.head), &host.elems, &host.shared);
+        assert_eq!(linear, number == 0, "{size} {total}");
     }
 }
 
@@ -273,8 +329,8 @@ fn the_check_is_the_sentences() {
         for _ in 0..next(12) {
             let (j, k) = (key(1 + next(5), 1 + next(3)), key(1 + next(5), 1 + next(3)));
             let call = match next(5) {
-                0 => new_run(next(3), next(3)),
-                1 => Call::Insert(k, next(3)),
+                0 => Call::InsertSurject { payload: next(3), value: next(3), size: next(3) as u32 },
+                1 => Call::Insert(k, next(3), next(3) as u32),
                 2 => Call::Union(j, k),
                 3 => Call::Seal(k),
                 _ => Call::RemoveElement(k),

@@ -76,7 +76,7 @@ pub fn compare(cases: u64, seed: u64) -> Tally {
         let sound = host.call(Call::Check, &[]).number == 0;
         tally.entry(what).or_default()[usize::from(!sound)] += 1;
         // and each is called: refused 2, or given a slot while one is free
-        host.call(Call::InsertSurject { payload: r.below(50), value: r.below(50) }, &[]);
+        host.call(Call::InsertSurject { payload: r.below(50), value: r.below(50), size: r.size() }, &[]);
     }
     tally
 }

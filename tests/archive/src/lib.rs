@@ -50,6 +50,8 @@ pub unsafe fn run_at(lent: Lent, call: &Call) -> u64 {
             }
             Call::Get(k) => doorsedge_get(h, e, en, s, sn, k.slot, k.generation, o.cast()),
             Call::GetShared(k) => doorsedge_get_shared(h, e, en, s, sn, k.slot, k.generation, o.cast()),
+            Call::GetSize(k) => doorsedge_get_size(h, e, en, s, sn, k.slot, k.generation, o.cast()),
+            Call::GetTotal(k) => doorsedge_get_total(h, e, en, s, sn, k.slot, k.generation, o.cast()),
             Call::Set(k, payload) => doorsedge_set(h, e, en, s, sn, k.slot, k.generation, payload, o.cast()),
             Call::SetShared(k, value) => doorsedge_set_shared(h, e, en, s, sn, k.slot, k.generation, value, o.cast()),
             Call::ExchangeShared4(keys, values) => {
@@ -59,14 +61,16 @@ pub unsafe fn run_at(lent: Lent, call: &Call) -> u64 {
                 }
                 doorsedge_exchange_shared4(h, e, en, s, sn, &numbers, &values, o.cast())
             }
-            Call::InsertSurject { payload, value } => {
-                doorsedge_insert_surject(h, e, en, s, sn, payload, value, o.cast())
+            Call::InsertSurject { payload, value, size } => {
+                doorsedge_insert_surject(h, e, en, s, sn, payload, value, size, o.cast())
             }
-            Call::Insert(k, payload) => doorsedge_insert(h, e, en, s, sn, k.slot, k.generation, payload, o.cast()),
+            Call::Insert(k, payload, size) => {
+                doorsedge_insert(h, e, en, s, sn, k.slot, k.generation, payload, size, o.cast())
+            }
             Call::Union(j, k) => doorsedge_union(h, e, en, s, sn, j.slot, j.generation, k.slot, k.generation, o.cast()),
             Call::RemoveElement(k) => doorsedge_remove_element(h, e, en, s, sn, k.slot, k.generation, o.cast()),
-            Call::InsertInPlace(k, payload) => {
-                doorsedge_insert_in_place(h.cast(), e, en, s, sn, k.slot, k.generation, payload, o.cast())
+            Call::InsertInPlace(k, payload, size) => {
+                doorsedge_insert_in_place(h.cast(), e, en, s, sn, k.slot, k.generation, payload, size, o.cast())
             }
             Call::RemoveInPlace(k) => doorsedge_remove_in_place(h.cast(), e, en, s, sn, k.slot, k.generation, o.cast()),
             Call::RemoveShared(k) => doorsedge_remove_shared(h, e, en, s, sn, k.slot, k.generation, o.cast()),
@@ -176,14 +180,16 @@ pub fn every_call(j: Key, k: Key) -> Vec<Call> {
         Call::InSameSurject(j, k),
         Call::Get(k),
         Call::GetShared(k),
+        Call::GetSize(k),
+        Call::GetTotal(k),
         Call::Set(k, 5),
         Call::SetShared(k, 6),
         Call::ExchangeShared4([j, k, j, k], [1, 2, 3, 4]),
-        Call::InsertSurject { payload: 7, value: 8 },
-        Call::Insert(k, 9),
+        Call::InsertSurject { payload: 7, value: 8, size: 10 },
+        Call::Insert(k, 9, 11),
         Call::Union(j, k),
         Call::RemoveElement(k),
-        Call::InsertInPlace(k, 9),
+        Call::InsertInPlace(k, 9, 11),
         Call::RemoveInPlace(k),
         Call::RemoveShared(k),
         Call::List(k),

@@ -3,6 +3,7 @@
 
 use crate::{Host, key};
 use model::door::{Call, KINDS};
+use model::layout::{CLASS, SIZE, TOTAL};
 use model::{FRAME, HEADER, Key, PAIR, PLACE, RECORD, SEAL_PLACE};
 use std::collections::BTreeMap;
 use std::fmt;
@@ -40,6 +41,15 @@ impl Random {
             0 => self.number(),
             1 => self.of(&[65_535, 65_536, 65_537, 4_294_967_294, 4_294_967_295, 4_294_967_296, u64::MAX, 1 << 63]),
             _ => self.below(small),
+        }
+    }
+
+    /// A frame's bytes: few, near the most that there can be, or anything.
+    pub fn size(&mut self) -> u32 {
+        match self.below(4) {
+            0 => self.of(&[0, 1, 65_535, 65_536, u32::MAX - 1, u32::MAX]),
+            1 => self.number() as u32,
+            _ => self.below(1_000) as u32,
         }
     }
 }
@@ -104,7 +114,7 @@ pub(crate) fn begun(r: &mut Random) -> Host {
     host
 }
 
-/// One to three numbers changed, or a table one number short or long, or a capacity that does not fit it.
+/// One to three numbers changed, or a size and its total, or a table one number short or long, or a capacity that does not fit it.
 fn damaged(grown: &Host, r: &mut Random) -> Host {
     let mut host = grown.clone();
     let small = host.head[0] + 3;
@@ -119,6 +129,10 @@ fn damaged(grown: &Host, r: &mut Random) -> Host {
         }
         return host;
     }
+    if r.one_in(4) {
+        resized(&mut host, r);
+        return host;
+    }
     for _ in 0..=r.below(3) {
         let value = r.odd(small);
         match r.below(4) {
@@ -129,6 +143,27 @@ fn damaged(grown: &Host, r: &mut Random) -> Host {
         }
     }
     host
+}
+
+/// A frame's size changed, and its run's total by as much, which is sound while the size is a u32; or one of the two alone.
+fn resized(host: &mut Host, r: &mut Random) {
+    let keys = host.keys();
+    if keys.is_empty() {
+        return;
+    }
+    let row = (r.of(&keys).slot as usize - 1) * FRAME;
+    let header = (host.elems[row + CLASS] as usize - 1) * HEADER;
+    let (new, way) = (r.odd(1_000), r.below(4));
+    let old = host.elems[row + SIZE];
+    let total = &mut host.shared[header + TOTAL];
+    match way {
+        0 => *total = total.wrapping_add(r.of(&[1, u64::MAX])),
+        1 => host.elems[row + SIZE] = new,
+        _ => {
+            host.elems[row + SIZE] = new;
+            *total = total.wrapping_sub(old).wrapping_add(new);
+        }
+    }
 }
 
 fn pick<'a>(table: &'a mut [u64], r: &mut Random) -> &'a mut u64 {
@@ -166,7 +201,7 @@ fn any_key(keys: &[Key], r: &mut Random) -> Key {
 pub(crate) fn any_call(host: &Host, r: &mut Random) -> Call {
     let keys = host.keys();
     let (j, k) = (any_key(&keys, r), any_key(&keys, r));
-    let (a, b, elems, shared) = (r.odd(50), r.odd(50), r.below(7), r.below(7));
+    let (a, b, size, elems, shared) = (r.odd(50), r.odd(50), r.size(), r.below(7), r.below(7));
     // what fills the tables comes more often than what empties them
     match r.below(KINDS as u64 + 14) {
         0 => Call::Fresh { elems: r.of(&[host.head[0], elems]), shared: r.of(&[host.head[4], shared]) },
@@ -186,13 +221,15 @@ pub(crate) fn any_call(host: &Host, r: &mut Random) -> Call {
         16 if r.one_in(3) => Call::DrainAll,
         17 if r.one_in(3) => Call::Clear,
         18 => Call::CompressCanonical { reset: r.of(&[0, 0, 1, a]) },
-        19 => Call::InsertInPlace(k, a),
+        19 => Call::InsertInPlace(k, a, size),
         20 => Call::RemoveInPlace(k),
         21 => Call::Seal(k),
         22 => Call::CompressWith { reset: r.of(&[0, 0, 1, a]) },
         23 => Call::Lookup(k),
-        n if n < 31 => Call::InsertSurject { payload: a, value: b },
-        _ => Call::Insert(k, a),
+        24 => Call::GetSize(k),
+        25 => Call::GetTotal(k),
+        n if n < 33 => Call::InsertSurject { payload: a, value: b, size },
+        _ => Call::Insert(k, a, size),
     }
 }
 

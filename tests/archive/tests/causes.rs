@@ -12,7 +12,7 @@ const OTHER_GENERATION: u64 = 3;
 /// Four runs: frames in slots 1, 2, 3 and 5; slot 4 is free, slot 5 was taken again, slot 6 is past the extent.
 fn grown() -> Host {
     let mut host = Host::fresh(6, 5);
-    let new = |payload| Call::InsertSurject { payload, value: 10 * payload };
+    let new = |payload| Call::InsertSurject { payload, value: 10 * payload, size: 0 };
     let remove = |slot| Call::RemoveElement(key(slot, 1));
     for call in [new(1), new(2), new(3), new(4), new(5), remove(4), remove(5), new(6)] {
         assert_eq!(host.call(call, &[]).number, 0);
@@ -64,7 +64,7 @@ fn with_key(k: Key) -> Vec<Call> {
 #[test]
 fn each_cause_in_each_call_with_one_key() {
     let host = grown();
-    assert_eq!(with_key(LIVE[0]).len(), 14);
+    assert_eq!(with_key(LIVE[0]).len(), 16);
     for (k, cause) in dead() {
         for call in with_key(k) {
             assert_eq!(said(&host, call), (3, cause), "{call:?}");
@@ -153,7 +153,7 @@ fn free_slots_only() {
 #[test]
 fn full_tables() {
     let mut host = Host::fresh(1, 1);
-    assert_eq!(host.call(Call::InsertSurject { payload: 1, value: 2 }, &[]).number, 0);
+    assert_eq!(host.call(Call::InsertSurject { payload: 1, value: 2, size: 0 }, &[]).number, 0);
     assert_eq!(said(&host, Call::Lookup(key(1, 1))), (0, 0));
     assert_eq!(said(&host, Call::Lookup(key(2, 1))), (3, NO_SLOT));
     assert_eq!(said(&host, Call::Lookup(key(1, 2))), (3, OTHER_GENERATION));
@@ -170,11 +170,11 @@ fn what_becomes_of_a_key() {
     };
     then(Call::Set(k, 9), 0);
     then(Call::RemoveElement(k), FREE_SLOT);
-    then(Call::Insert(key(1, 1), 8), OTHER_GENERATION);
+    then(Call::Insert(key(1, 1), 8, 0), OTHER_GENERATION);
     then(Call::RemoveShared(key(1, 1)), FREE_SLOT);
     // two frames are left
     then(Call::CompressWith { reset: 0 }, NO_SLOT);
-    then(Call::InsertSurject { payload: 1, value: 2 }, OTHER_GENERATION);
+    then(Call::InsertSurject { payload: 1, value: 2, size: 0 }, OTHER_GENERATION);
     then(Call::Clear, NO_SLOT);
 }
 
@@ -193,11 +193,11 @@ fn the_order_of_refusals() {
     let mut host = grown();
     assert_eq!(host.call(Call::Seal(LIVE[0]), &[0; 3]).number, 0);
     for _ in 0..2 {
-        assert_eq!(host.call(Call::Insert(LIVE[1], 7), &[]).number, 0);
+        assert_eq!(host.call(Call::Insert(LIVE[1], 7, 0), &[]).number, 0);
     }
     // no element slot is free now
-    assert_eq!(said(&host, Call::Insert(LIVE[1], 8)), (5, 0));
-    assert_eq!(said(&host, Call::Insert(key(5, 1), 8)), (3, OTHER_GENERATION));
+    assert_eq!(said(&host, Call::Insert(LIVE[1], 8, 0)), (5, 0));
+    assert_eq!(said(&host, Call::Insert(key(5, 1), 8, 0)), (3, OTHER_GENERATION));
     assert_eq!(said(&host, Call::Union(LIVE[0], LIVE[1])), (12, 0));
     assert_eq!(said(&host, Call::Union(LIVE[0], key(7, 1))), (3, NO_SLOT));
     for call in [Call::List(key(5, 1)), Call::Seal(key(5, 1)), Call::Drain(key(5, 1))] {

@@ -8,8 +8,8 @@ use model::door::Call;
 fn restored(root: u64, shared_root: u64) -> Host {
     Host {
         head: [2, 2, root, 1, 2, 2, shared_root, 1, 2],
-        elems: vec![0, 0, 0, 0, 0, 1, 20, 2, 2, 2],
-        shared: vec![0, 0, 0, 0, 1, 200, 0, 0],
+        elems: vec![0, 0, 0, 0, 0, 0, 1, 20, 2, 2, 2, 9],
+        shared: vec![0, 0, 0, 0, 0, 1, 200, 0, 0, 9],
     }
 }
 
@@ -24,7 +24,7 @@ fn a_free_slot_off_its_chain_is_refused_2() {
     // the smallest: one slot of each table, used once and on no chain
     let mut smallest = Host::fresh(1, 1);
     (smallest.head[1], smallest.head[5]) = (1, 1);
-    assert_eq!(smallest.call(Call::InsertSurject { payload: 1, value: 2 }, &[]).number, 2);
+    assert_eq!(smallest.call(Call::InsertSurject { payload: 1, value: 2, size: 0 }, &[]).number, 2);
 }
 
 /// With the slot on its chain the same state is accepted, and gives the slot.
@@ -32,13 +32,13 @@ fn a_free_slot_off_its_chain_is_refused_2() {
 fn the_same_slot_chained_is_given() {
     let mut host = restored(1, 1);
     assert_eq!(host.call(Call::Check, &[]).number, 0);
-    let said = host.clone().call(Call::Insert(key(2, 1), 21), &[]);
+    let said = host.clone().call(Call::Insert(key(2, 1), 21, 0), &[]);
     assert_eq!((said.number, &said.out[..2]), (0, &[1, 2][..]));
-    let said = host.call(Call::InsertSurject { payload: 40, value: 400 }, &[]);
+    let said = host.call(Call::InsertSurject { payload: 40, value: 400, size: 0 }, &[]);
     assert_eq!((said.number, &said.out[..2]), (0, &[1, 2][..]));
     // and then no slot up to the capacities is free
-    assert_eq!(host.clone().call(Call::InsertSurject { payload: 41, value: 410 }, &[]).number, 6);
-    assert_eq!(host.call(Call::Insert(key(2, 1), 22), &[]).number, 5);
+    assert_eq!(host.clone().call(Call::InsertSurject { payload: 41, value: 410, size: 0 }, &[]).number, 6);
+    assert_eq!(host.call(Call::Insert(key(2, 1), 22, 0), &[]).number, 5);
 }
 
 /// Two free slots and a chain of one.
@@ -46,7 +46,7 @@ fn the_same_slot_chained_is_given() {
 fn a_chain_one_short_is_refused_2() {
     let mut host = Host::fresh(3, 3);
     for payload in 1..=3 {
-        assert_eq!(host.call(Call::InsertSurject { payload, value: payload }, &[]).number, 0);
+        assert_eq!(host.call(Call::InsertSurject { payload, value: payload, size: 0 }, &[]).number, 0);
     }
     for slot in 1..=2 {
         assert_eq!(host.call(Call::RemoveElement(key(slot, 1)), &[]).number, 0);

@@ -4,14 +4,15 @@
 use archive::random::Random;
 use archive::{Host, UNTOUCHED, key};
 use model::door::Call;
-use model::layout::{COUNT, MARK, VALUE};
+use model::layout::{COUNT, MARK, PAYLOAD, SIZE, TOTAL, VALUE};
 use model::{FRAME, HEADER, Key, PAIR, PLACE, SEAL_PLACE};
 use std::collections::BTreeMap;
 
 const LAST: u64 = 4_294_967_295;
 
+/// Sizes are seven times the payload.
 fn new_run(payload: u64, value: u64) -> Call {
-    Call::InsertSurject { payload, value }
+    Call::InsertSurject { payload, value, size: 7 * payload as u32 }
 }
 
 fn made(elems: u64, shared: u64, calls: &[Call]) -> Host {
@@ -24,8 +25,8 @@ fn made(elems: u64, shared: u64, calls: &[Call]) -> Host {
 
 /// Slot 3 under 100, and 4 and 6 in a sealed ring under 300; slots 1, 2 and 5 and the second shared slot are free.
 fn with_holes() -> Host {
-    let runs = [new_run(10, 100), new_run(20, 200), Call::Insert(key(1, 1), 11), new_run(30, 300)];
-    let grown = [Call::Insert(key(2, 1), 21), Call::Insert(key(4, 1), 31), Call::Seal(key(6, 1))];
+    let runs = [new_run(10, 100), new_run(20, 200), Call::Insert(key(1, 1), 11, 77), new_run(30, 300)];
+    let grown = [Call::Insert(key(2, 1), 21, 147), Call::Insert(key(4, 1), 31, 217), Call::Seal(key(6, 1))];
     let gone = [Call::RemoveShared(key(2, 1)), Call::RemoveElement(key(1, 1))];
     made(7, 4, &[&runs[..], &grown, &gone].concat())
 }
@@ -45,9 +46,9 @@ fn what_it_answers_and_leaves() {
         let said = host.call(Call::CompressWith { reset }, &[77; 3 * PAIR + 2]);
         assert_eq!((said.number, said.out), (0, [3, 0, UNTOUCHED, UNTOUCHED]));
         assert_eq!(said.lent, [3, 1, 1, g, 4, 1, 2, g, 6, 1, 3, g, 77, 77]);
-        let rows = [[g, 11, 1, 1, 1], [g, 30, 2, 3, 3], [g, 31, 2, 2, 2]].concat();
+        let rows = [[g, 11, 1, 1, 1, 77], [g, 30, 2, 3, 3, 210], [g, 31, 2, 2, 2, 217]].concat();
         assert_eq!(host.elems, [rows, vec![0; 4 * FRAME]].concat());
-        assert_eq!(host.shared, [[1, 100, 0, 0], [2, 300, 0, 1], [0; HEADER], [0; HEADER]].concat());
+        assert_eq!(host.shared, [[1, 100, 0, 0, 77], [2, 300, 0, 1, 427], [0; HEADER], [0; HEADER]].concat());
         assert_eq!(host.head, [7, 3, 0, 3, 4, 2, 0, 2, g]);
     }
 }
@@ -55,35 +56,39 @@ fn what_it_answers_and_leaves() {
 /// Ring 1, 3, 2: canonical compression lays it out along the ring, this one leaves the frames where they stand.
 #[test]
 fn frames_keep_the_order_of_their_slots() {
-    let ring = made(4, 3, &[new_run(10, 100), Call::Insert(key(1, 1), 11), Call::Insert(key(1, 1), 12)]);
+    let ring = made(4, 3, &[new_run(10, 100), Call::Insert(key(1, 1), 11, 77), Call::Insert(key(1, 1), 12, 84)]);
     let (mut canonical, mut ordered) = (ring.clone(), ring);
     assert_eq!(canonical.call(Call::CompressCanonical { reset: 1 }, &[0; 4 * FRAME]).number, 0);
-    assert_eq!(canonical.elems[..3 * FRAME], [1, 10, 1, 3, 2, 1, 12, 1, 1, 3, 1, 11, 1, 2, 1]);
+    assert_eq!(
+        canonical.elems[..3 * FRAME],
+        [[1, 10, 1, 3, 2, 70], [1, 12, 1, 1, 3, 84], [1, 11, 1, 2, 1, 77]].concat()
+    );
     assert_eq!(compress(&mut ordered, 1), [1, 1, 1, 1, 2, 1, 2, 1, 3, 1, 3, 1]);
-    assert_eq!(ordered.elems[..3 * FRAME], [1, 10, 1, 2, 3, 1, 11, 1, 3, 1, 1, 12, 1, 1, 2]);
+    assert_eq!(ordered.elems[..3 * FRAME], [[1, 10, 1, 2, 3, 70], [1, 11, 1, 3, 1, 77], [1, 12, 1, 1, 2, 84]].concat());
 }
 
 /// P11's state with one run more: the lowest frame's header is the second one. Canonical compression puts it first, this one
 /// leaves it behind the other. (P11's state itself comes out alike: tests/entries.rs.)
 #[test]
 fn headers_keep_the_order_of_their_slots() {
-    let calls = [new_run(10, 100), new_run(20, 200), Call::RemoveElement(key(1, 1)), Call::Insert(key(2, 1), 21)];
+    let calls = [new_run(10, 100), new_run(20, 200), Call::RemoveElement(key(1, 1)), Call::Insert(key(2, 1), 21, 147)];
     let host = made(4, 3, &[&calls[..], &[new_run(30, 300)]].concat());
-    assert_eq!(host.shared[..2 * HEADER], [1, 300, 0, 0, 2, 200, 0, 0]);
+    assert_eq!(host.shared[..2 * HEADER], [1, 300, 0, 0, 210, 2, 200, 0, 0, 287]);
     let (mut canonical, mut ordered) = (host.clone(), host);
     assert_eq!(canonical.call(Call::CompressCanonical { reset: 0 }, &[0; 4 * FRAME]).number, 0);
-    assert_eq!(canonical.shared[..2 * HEADER], [2, 200, 0, 0, 1, 300, 0, 0]);
+    assert_eq!(canonical.shared[..2 * HEADER], [2, 200, 0, 0, 287, 1, 300, 0, 0, 210]);
     compress(&mut ordered, 0);
-    assert_eq!(ordered.shared[..2 * HEADER], [1, 300, 0, 0, 2, 200, 0, 0]);
-    assert_eq!(ordered.elems[..3 * FRAME], [3, 21, 2, 2, 2, 3, 20, 2, 1, 1, 3, 30, 1, 3, 3]);
+    assert_eq!(ordered.shared[..2 * HEADER], [1, 300, 0, 0, 210, 2, 200, 0, 0, 287]);
+    let rows = [[3, 21, 2, 2, 2, 147], [3, 20, 2, 1, 1, 140], [3, 30, 1, 3, 3, 210]];
+    assert_eq!(ordered.elems[..3 * FRAME], rows.concat());
     assert_ne!(canonical, ordered);
 }
 
 /// Each frame has its own old generation in its pair, and the new one is one for all.
 #[test]
 fn pairs_have_each_frame_s_old_generation() {
-    let calls = [new_run(10, 100), Call::Insert(key(1, 1), 11), Call::RemoveElement(key(1, 1))];
-    let mut host = made(4, 3, &[&calls[..], &[Call::Insert(key(2, 1), 12), new_run(20, 200)]].concat());
+    let calls = [new_run(10, 100), Call::Insert(key(1, 1), 11, 77), Call::RemoveElement(key(1, 1))];
+    let mut host = made(4, 3, &[&calls[..], &[Call::Insert(key(2, 1), 12, 84), new_run(20, 200)]].concat());
     assert_eq!(compress(&mut host, 0), [1, 2, 1, 3, 2, 1, 2, 3, 3, 2, 3, 3]);
     assert_eq!(compress(&mut host, 0), [1, 3, 1, 4, 2, 3, 2, 4, 3, 3, 3, 4]);
 }
@@ -154,11 +159,11 @@ fn refusals_1_and_2_come_before_7() {
     assert_eq!(host.call(Call::CompressWith { reset: 0 }, &[]).number, 1);
 }
 
-/// A run as it is seen by calls: its frames' payloads in ring order from a key, its value, count and mark.
+/// A run: its frames' payloads and sizes in ring order from a key, its value, count, mark and total.
 #[derive(PartialEq, Eq, Debug)]
 struct Seen {
-    ring: Vec<(Key, u64)>,
-    header: [u64; 3],
+    ring: Vec<(Key, [u64; 2])>,
+    header: [u64; 4],
 }
 
 fn seen(host: &mut Host, k: Key) -> Seen {
@@ -166,10 +171,11 @@ fn seen(host: &mut Host, k: Key) -> Seen {
     assert_eq!(list.number, 0);
     let places = list.lent.chunks(PLACE).take(list.out[0] as usize);
     let ring = places.map(|place| key(place[0], place[1]));
-    let ring = ring.map(|k| (k, host.elems[(k.slot as usize - 1) * FRAME + 1])).collect();
+    let row = |k: Key| &host.elems[(k.slot as usize - 1) * FRAME..][..FRAME];
+    let ring = ring.map(|k| (k, [row(k)[PAYLOAD], row(k)[SIZE]])).collect();
     let class = host.elems[(k.slot as usize - 1) * FRAME + 2] as usize;
     let row = &host.shared[(class - 1) * HEADER..][..HEADER];
-    Seen { ring, header: [row[COUNT], row[VALUE], row[MARK]] }
+    Seen { ring, header: [row[COUNT], row[VALUE], row[MARK], row[TOTAL]] }
 }
 
 /// A state grown by random calls, its payloads distinct.
@@ -181,7 +187,7 @@ fn grown(r: &mut Random) -> Host {
         let (j, k) = if keys.is_empty() { (key(0, 0), key(0, 0)) } else { (r.of(&keys), r.of(&keys)) };
         let call = match r.below(9) {
             0..=2 => new_run(payload, 1_000 + payload),
-            3 | 4 => Call::Insert(k, payload),
+            3 | 4 => Call::Insert(k, payload, 7 * payload as u32),
             5 => Call::Union(j, k),
             6 if r.one_in(3) => Call::Seal(k),
             7 if r.one_in(2) => Call::RemoveShared(k),

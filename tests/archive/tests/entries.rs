@@ -13,15 +13,15 @@ fn said(host: &mut Host, call: Call) -> (u64, Vec<u64>) {
 }
 
 fn new_run(payload: u64, value: u64) -> Call {
-    Call::InsertSurject { payload, value }
+    Call::InsertSurject { payload, value, size: 0 }
 }
 
 /// P1 and P2: ring 1, 3, 2 under 100, and 4 under 200.
 fn two_runs() -> Host {
     let mut host = Host::fresh(4, 3);
     assert_eq!(said(&mut host, new_run(10, 100)), (0, vec![1, 1]));
-    assert_eq!(said(&mut host, Call::Insert(key(1, 1), 11)), (0, vec![2, 1]));
-    assert_eq!(said(&mut host, Call::Insert(key(1, 1), 12)), (0, vec![3, 1]));
+    assert_eq!(said(&mut host, Call::Insert(key(1, 1), 11, 0)), (0, vec![2, 1]));
+    assert_eq!(said(&mut host, Call::Insert(key(1, 1), 12, 0)), (0, vec![3, 1]));
     assert_eq!(said(&mut host, new_run(20, 200)), (0, vec![4, 1]));
     host
 }
@@ -56,6 +56,10 @@ fn reads() {
     assert_eq!(said(&mut host, Call::Get(dead)), (3, vec![]));
     assert_eq!(said(&mut host, Call::GetShared(live)), (0, vec![100]));
     assert_eq!(said(&mut host, Call::GetShared(dead)), (3, vec![]));
+    for call in [Call::GetSize, Call::GetTotal] {
+        assert_eq!(said(&mut host, call(live)), (0, vec![0]));
+        assert_eq!(said(&mut host, call(dead)), (3, vec![]));
+    }
 }
 
 #[test]
@@ -79,7 +83,7 @@ fn exchange_shared4() {
     let keys = [key(3, 1), key(1, 1), key(4, 1), key(2, 1)];
     assert_eq!(said(&mut host, Call::ExchangeShared4(keys, [1, 2, 3, 4])), (0, vec![300, 100, 400, 200]));
     assert_eq!(said(&mut host, Call::GetShared(key(1, 1))), (0, vec![2]));
-    assert_eq!(said(&mut host, Call::Insert(key(1, 1), 9)), (0, vec![5, 1]));
+    assert_eq!(said(&mut host, Call::Insert(key(1, 1), 9, 0)), (0, vec![5, 1]));
     let twice = [key(3, 1), key(1, 1), key(5, 1), key(2, 1)];
     assert_eq!(said(&mut host, Call::ExchangeShared4(twice, [1, 2, 3, 4])), (4, vec![]));
     let dead = [key(1, 1), key(1, 1), key(5, 1), key(6, 1)];
@@ -90,8 +94,8 @@ fn exchange_shared4() {
 fn insert_surject_and_insert() {
     let mut host = two_runs();
     assert_eq!(said(&mut host, new_run(30, 300)), (5, vec![]));
-    assert_eq!(said(&mut host, Call::Insert(key(4, 1), 30)), (5, vec![]));
-    assert_eq!(said(&mut host, Call::Insert(key(4, 7), 30)), (3, vec![]));
+    assert_eq!(said(&mut host, Call::Insert(key(4, 1), 30, 0)), (5, vec![]));
+    assert_eq!(said(&mut host, Call::Insert(key(4, 7), 30, 0)), (3, vec![]));
     let mut full = Host::fresh(1, 1);
     assert_eq!(said(&mut full, new_run(1, 2)), (0, vec![1, 1]));
     // both tables are full: the shared slot is tested first
@@ -124,8 +128,8 @@ fn in_place() {
     let mut host = two_runs();
     assert_eq!(said(&mut host, Call::RemoveInPlace(key(2, 1))), (0, vec![11, 0, 0, 0]));
     assert_eq!(said(&mut host, Call::RemoveInPlace(key(2, 1))), (3, vec![]));
-    assert_eq!(said(&mut host, Call::InsertInPlace(key(4, 1), 21)), (0, vec![2, 2]));
-    assert_eq!(said(&mut host, Call::InsertInPlace(key(4, 1), 22)), (5, vec![]));
+    assert_eq!(said(&mut host, Call::InsertInPlace(key(4, 1), 21, 0)), (0, vec![2, 2]));
+    assert_eq!(said(&mut host, Call::InsertInPlace(key(4, 1), 22, 0)), (5, vec![]));
     assert_eq!((host.head[2], host.head[3], host.head[8]), (0, 4, 2));
 }
 
@@ -156,7 +160,7 @@ fn seal() {
     assert_eq!(seal.lent, [3, 1, 12, 2, 1, 11, 1, 1, 10, 77]);
     assert_eq!(host.call(Call::Seal(key(1, 1)), &[77; 3 * SEAL_PLACE]).number, 12);
     assert_eq!(said(&mut host, Call::Union(key(4, 1), key(1, 1))), (12, vec![]));
-    assert_eq!(said(&mut host, Call::Insert(key(1, 1), 13)), (12, vec![]));
+    assert_eq!(said(&mut host, Call::Insert(key(1, 1), 13, 0)), (12, vec![]));
 }
 
 #[test]
@@ -197,7 +201,7 @@ fn p11() -> Host {
     said(&mut host, new_run(10, 100));
     said(&mut host, new_run(20, 200));
     said(&mut host, Call::RemoveElement(key(1, 1)));
-    assert_eq!(said(&mut host, Call::Insert(key(2, 1), 21)), (0, vec![1, 2]));
+    assert_eq!(said(&mut host, Call::Insert(key(2, 1), 21, 0)), (0, vec![1, 2]));
     host
 }
 
@@ -205,16 +209,16 @@ fn p11() -> Host {
 #[test]
 fn compress_canonical() {
     let mut host = p11();
-    assert_eq!(host.call(Call::CompressCanonical { reset: 0 }, &[8; 19]).number, 7);
-    let compress = host.call(Call::CompressCanonical { reset: 0 }, &[8; 21]);
+    assert_eq!(host.call(Call::CompressCanonical { reset: 0 }, &[8; 4 * FRAME - 1]).number, 7);
+    let compress = host.call(Call::CompressCanonical { reset: 0 }, &[8; 4 * FRAME + 1]);
     assert_eq!((compress.number, compress.out[0]), (0, 0));
-    assert_eq!(compress.lent, [vec![0; 20], vec![8]].concat());
-    assert_eq!(host.elems[..10], [3, 21, 1, 2, 2, 3, 20, 1, 1, 1]);
-    assert_eq!(host.shared, [[2, 200, 0, 0], [0; HEADER], [0; HEADER]].concat());
+    assert_eq!(compress.lent, [vec![0; 4 * FRAME], vec![8]].concat());
+    assert_eq!(host.elems[..2 * FRAME], [3, 21, 1, 2, 2, 0, 3, 20, 1, 1, 1, 0]);
+    assert_eq!(host.shared, [[2, 200, 0, 0, 0], [0; HEADER], [0; HEADER]].concat());
     assert_eq!(host.head, [4, 2, 0, 2, 3, 1, 0, 1, 3]);
     host.head[8] = 4_294_967_295;
     // any number but 0 asks for a reset
-    assert_eq!(host.call(Call::CompressCanonical { reset: 1 << 40 }, &[8; 20]).out[0], 0);
+    assert_eq!(host.call(Call::CompressCanonical { reset: 1 << 40 }, &[8; 4 * FRAME]).out[0], 0);
     assert_eq!((host.head[8], host.elems[0]), (1, 1));
 }
 

@@ -2,12 +2,12 @@
 
 use archive::{Host, key};
 use model::door::Call;
-use model::layout::{HEADER, MARK};
+use model::layout::{FRAME, HEADER, MARK, TOTAL};
 
 /// Slots 1 and 2 in a ring under 100, of three; one run more could begin.
 fn ring() -> Host {
-    let elems = vec![1, 10, 1, 2, 2, 1, 11, 1, 1, 1, 0, 0, 0, 0, 0];
-    Host { head: [3, 2, 0, 2, 2, 1, 0, 1, 1], elems, shared: [[2, 100, 0, 0], [0; HEADER]].concat() }
+    let elems = [[1, 10, 1, 2, 2, 7], [1, 11, 1, 1, 1, 8], [0; FRAME]].concat();
+    Host { head: [3, 2, 0, 2, 2, 1, 0, 1, 1], elems, shared: [[2, 100, 0, 0, 15], [0; HEADER]].concat() }
 }
 
 /// Makes the call (which compares every number with the model's), and answers the result.
@@ -18,19 +18,20 @@ fn number(host: &mut Host, call: Call) -> u64 {
 #[test]
 fn insert() {
     let mut host = ring();
-    assert_eq!(number(&mut host, Call::InsertInPlace(key(1, 2), 12)), 3);
+    assert_eq!(number(&mut host, Call::InsertInPlace(key(1, 2), 12, 0)), 3);
     host.shared[MARK] = 1;
-    assert_eq!(number(&mut host, Call::InsertInPlace(key(1, 2), 12)), 3);
-    assert_eq!(number(&mut host, Call::InsertInPlace(key(1, 1), 12)), 12);
+    assert_eq!(number(&mut host, Call::InsertInPlace(key(1, 2), 12, 0)), 3);
+    assert_eq!(number(&mut host, Call::InsertInPlace(key(1, 1), 12, 0)), 12);
     host.shared[MARK] = 0;
-    assert_eq!(number(&mut host, Call::InsertInPlace(key(1, 1), 12)), 0);
-    assert_eq!(number(&mut host, Call::InsertInPlace(key(1, 1), 13)), 5);
+    assert_eq!(number(&mut host, Call::InsertInPlace(key(1, 1), 12, 6)), 0);
+    assert_eq!(host.shared[TOTAL], 21);
+    assert_eq!(number(&mut host, Call::InsertInPlace(key(1, 1), 13, 0)), 5);
     host.shared[MARK] = 1;
-    assert_eq!(number(&mut host, Call::InsertInPlace(key(1, 1), 13)), 12);
+    assert_eq!(number(&mut host, Call::InsertInPlace(key(1, 1), 13, 0)), 12);
     host.head[3] += 1;
-    assert_eq!(number(&mut host, Call::InsertInPlace(key(1, 1), 13)), 2);
+    assert_eq!(number(&mut host, Call::InsertInPlace(key(1, 1), 13, 0)), 2);
     host.head[0] = 0;
-    assert_eq!(number(&mut host, Call::InsertInPlace(key(1, 1), 13)), 1);
+    assert_eq!(number(&mut host, Call::InsertInPlace(key(1, 1), 13, 0)), 1);
 }
 
 #[test]
@@ -38,7 +39,7 @@ fn remove() {
     let mut host = ring();
     host.head[8] = 4_294_967_295;
     assert_eq!(host.call(Call::RemoveInPlace(key(2, 1)), &[]).out, [11, 0, 0, 1]);
-    assert_eq!(host.head[8], 1);
+    assert_eq!((host.head[8], host.shared[TOTAL]), (1, 7));
     assert_eq!(number(&mut host, Call::RemoveInPlace(key(2, 1))), 3);
     assert_eq!(host.call(Call::RemoveInPlace(key(1, 1)), &[]).out, [10, 1, 100, 0]);
     host.shared[1] = 1;

@@ -9,8 +9,8 @@ use model::{FRAME, HEADER, Key, RECORD, SEAL_PLACE};
 /// Ring 1, 3, 2 under 100, and 4 under 200; both tables as document 01's worked numbers leave them.
 fn two_runs() -> Host {
     let mut host = Host::fresh(4, 3);
-    let new = |payload, value| Call::InsertSurject { payload, value };
-    for call in [new(10, 100), Call::Insert(key(1, 1), 11), Call::Insert(key(1, 1), 12), new(20, 200)] {
+    let new = |payload, value| Call::InsertSurject { payload, value, size: 0 };
+    for call in [new(10, 100), Call::Insert(key(1, 1), 11, 0), Call::Insert(key(1, 1), 12, 0), new(20, 200)] {
         assert_eq!(host.call(call, &[]).number, 0);
     }
     host
@@ -54,8 +54,8 @@ fn what_it_answers_and_writes() {
 fn insert_union_and_a_second_seal_are_refused_12() {
     let host = sealed(key(2, 1));
     for slot in 1..=3 {
-        assert_eq!(number(&host, Call::Insert(key(slot, 1), 13), &[]), 12);
-        assert_eq!(number(&host, Call::InsertInPlace(key(slot, 1), 13), &[]), 12);
+        assert_eq!(number(&host, Call::Insert(key(slot, 1), 13, 0), &[]), 12);
+        assert_eq!(number(&host, Call::InsertInPlace(key(slot, 1), 13, 0), &[]), 12);
         assert_eq!(number(&host, Call::Union(key(slot, 1), key(4, 1)), &[]), 12);
         assert_eq!(number(&host, Call::Union(key(4, 1), key(slot, 1)), &[]), 12);
         assert_eq!(number(&host, Call::Seal(key(slot, 1)), &[0; 9]), 12);
@@ -75,7 +75,7 @@ fn insert_union_and_a_second_seal_are_refused_12() {
 fn refusals_3_and_4_come_before_12() {
     let host = sealed(key(1, 1));
     for dead in [key(1, 2), key(5, 1), key(0, 1)] {
-        assert_eq!(number(&host, Call::Insert(dead, 13), &[]), 3);
+        assert_eq!(number(&host, Call::Insert(dead, 13, 0), &[]), 3);
         assert_eq!(number(&host, Call::Union(key(1, 1), dead), &[]), 3);
         assert_eq!(number(&host, Call::Union(dead, key(1, 1)), &[]), 3);
         assert_eq!(number(&host, Call::Seal(dead), &[]), 3);
@@ -88,8 +88,8 @@ fn refusals_3_and_4_come_before_12() {
 fn refusal_12_comes_before_5_and_7() {
     let host = sealed(key(1, 1));
     // no element slot is free: at the other run it is 5
-    assert_eq!(number(&host, Call::Insert(key(1, 1), 13), &[]), 12);
-    assert_eq!(number(&host, Call::Insert(key(4, 1), 13), &[]), 5);
+    assert_eq!(number(&host, Call::Insert(key(1, 1), 13, 0), &[]), 12);
+    assert_eq!(number(&host, Call::Insert(key(4, 1), 13, 0), &[]), 5);
     assert_eq!(number(&host, Call::Seal(key(1, 1)), &[]), 12);
     assert_eq!(number(&host, Call::Seal(key(4, 1)), &[]), 7);
 }
@@ -142,15 +142,15 @@ fn the_mark_goes_with_the_last_frame() {
     let mut host = sealed(key(1, 1));
     for (slot, left) in [(2, 2), (1, 1)] {
         assert_eq!(host.call(Call::RemoveElement(key(slot, 1)), &[]).number, 0);
-        assert_eq!(host.shared[..HEADER], [left, 100, 0, 1]);
-        assert_eq!(number(&host, Call::Insert(key(3, 1), 13), &[]), 12);
+        assert_eq!(host.shared[..HEADER], [left, 100, 0, 1, 0]);
+        assert_eq!(number(&host, Call::Insert(key(3, 1), 13, 0), &[]), 12);
     }
     assert_eq!(host.call(Call::RemoveElement(key(3, 1)), &[]).out, [12, 1, 100, 0]);
     assert_eq!(host.shared[..HEADER], [0; HEADER]);
-    let new = host.call(Call::InsertSurject { payload: 30, value: 300 }, &[]);
+    let new = host.call(Call::InsertSurject { payload: 30, value: 300, size: 0 }, &[]);
     assert_eq!(new.out[..2], [3, 4]);
-    assert_eq!(host.shared[..HEADER], [1, 300, 0, 0]);
-    assert_eq!(number(&host, Call::Insert(key(3, 4), 31), &[]), 0);
+    assert_eq!(host.shared[..HEADER], [1, 300, 0, 0, 0]);
+    assert_eq!(number(&host, Call::Insert(key(3, 4), 31, 0), &[]), 0);
 }
 
 /// A header goes to another shared slot, its mark with it; frames are then refused under their new keys.
@@ -166,13 +166,13 @@ fn compression_carries_the_mark() {
         assert_eq!(host.call(Call::RemoveShared(key(2, 1)), &[]).number, 0);
         let lent = [9; 4 * FRAME];
         assert_eq!(host.call(Call::CompressCanonical { reset }, &lent).number, 0);
-        assert_eq!(host.shared[..HEADER], [1, 200, 0, 1]);
+        assert_eq!(host.shared[..HEADER], [1, 200, 0, 1, 0]);
         assert_eq!(marks(&host), [1, 0, 0]);
         // two runs, which keep their order: the mark stays with its run
         assert_eq!(both.call(Call::CompressCanonical { reset }, &lent).number, 0);
         assert_eq!(marks(&both), [0, 1, 0]);
-        assert_eq!(number(&both, Call::Insert(key(1, generation), 13), &[]), 0);
-        assert_eq!(number(&both, Call::Insert(key(2, generation), 13), &[]), 12);
+        assert_eq!(number(&both, Call::Insert(key(1, generation), 13, 0), &[]), 0);
+        assert_eq!(number(&both, Call::Insert(key(2, generation), 13, 0), &[]), 12);
     }
 }
 

@@ -4,7 +4,7 @@
 use archive::random::compare;
 use archive::{Host, every_call, key};
 use model::door::Call;
-use model::layout::{COUNT, MARK, NEXT_FREE, VALUE};
+use model::layout::{CLASS, COUNT, MARK, MOST_BYTES, NEXT, NEXT_FREE, PAYLOAD, PREVIOUS, SIZE, TOTAL, VALUE};
 use model::{FRAME, HEADER, PAIR, PLACE, RECORD, SEAL_PLACE, check};
 
 fn numbers(host: &Host) -> Vec<u64> {
@@ -15,9 +15,9 @@ fn numbers(host: &Host) -> Vec<u64> {
 fn two_runs() -> Host {
     let mut host = Host::fresh(4, 3);
     for call in [
-        Call::InsertSurject { payload: 1, value: 2 },
-        Call::InsertSurject { payload: 3, value: 4 },
-        Call::Insert(key(1, 1), 5),
+        Call::InsertSurject { payload: 1, value: 2, size: 100 },
+        Call::InsertSurject { payload: 3, value: 4, size: 300 },
+        Call::Insert(key(1, 1), 5, 500),
     ] {
         assert_eq!(host.call(call, &[]).number, 0);
     }
@@ -62,7 +62,7 @@ fn capacities_at_their_limits() {
         (host.head[0], host.head[4]) = (elems, shared);
         assert_eq!(host.call_with(check::sound, Call::Check, &[]).number, number, "{elems} {shared}");
         assert_eq!(host.call_with(check::sound, Call::Fresh { elems, shared }, &[]).number, number);
-        let new = host.call_with(check::sound, Call::InsertSurject { payload: 1, value: 2 }, &[]).number;
+        let new = host.call_with(check::sound, Call::InsertSurject { payload: 1, value: 2, size: 0 }, &[]).number;
         assert_eq!(new, number);
     }
 }
@@ -98,7 +98,7 @@ fn wrapping(width: usize, table: &mut Vec<u64>) -> u64 {
     }
 }
 
-/// 65,536 frames in one ring, or in as many runs, or in rings of four: every call, every slot compared.
+/// 65,536 frames of the largest size in one ring, or in as many runs, or in rings of four: every call, every slot compared.
 #[test]
 fn full_tables() {
     let most = 65_536u64;
@@ -134,10 +134,10 @@ fn full(most: u64, size: u64) -> Host {
     for run in 0..runs {
         let slot = |i: u64| (i % size) * runs + run + 1;
         for i in 0..size {
-            let row = [1, slot(i) * 3, run + 1, slot(i + size - 1), slot(i + 1)];
+            let row = [1, slot(i) * 3, run + 1, slot(i + size - 1), slot(i + 1), MOST_BYTES];
             host.elems[(slot(i) as usize - 1) * FRAME..][..FRAME].copy_from_slice(&row);
         }
-        host.shared[run as usize * HEADER..][..HEADER].copy_from_slice(&[size, run, 0, 0]);
+        host.shared[run as usize * HEADER..][..HEADER].copy_from_slice(&[size, run, 0, 0, size * MOST_BYTES]);
     }
     host
 }
@@ -147,13 +147,13 @@ fn full(most: u64, size: u64) -> Host {
 fn mixed_rings_are_refused_2() {
     let host = Host {
         head: [4, 4, 0, 4, 3, 2, 0, 2, 1],
-        elems: vec![1, 0, 1, 2, 2, 1, 0, 2, 1, 1, 1, 0, 1, 4, 4, 1, 0, 2, 3, 3],
-        shared: [[2, 0, 0, 0], [2, 0, 0, 0], [0; HEADER]].concat(),
+        elems: [[1, 0, 1, 2, 2, 0], [1, 0, 2, 1, 1, 0], [1, 0, 1, 4, 4, 0], [1, 0, 2, 3, 3, 0]].concat(),
+        shared: [[2, 0, 0, 0, 0], [2, 0, 0, 0, 0], [0; HEADER]].concat(),
     };
     assert!(numbers(&host).iter().all(|&n| n == 2));
     // with the classes sorted out it is sound
     let mut sorted = host.clone();
-    (sorted.elems[7], sorted.elems[12]) = (1, 2);
+    (sorted.elems[FRAME + CLASS], sorted.elems[2 * FRAME + CLASS]) = (1, 2);
     assert_eq!(sorted.call(Call::Check, &[]).number, 0);
     // and fresh takes any tables that fit
     assert_eq!(host.clone().call(Call::Fresh { elems: 4, shared: 3 }, &[]).number, 0);
@@ -164,12 +164,13 @@ fn mixed_rings_are_refused_2() {
 fn each_sentence_of_soundness() {
     let mut start = two_runs();
     // a free slot and a free header, so that chains are there too
-    for call in [Call::InsertSurject { payload: 6, value: 7 }, Call::RemoveElement(key(4, 1))] {
+    for call in [Call::InsertSurject { payload: 6, value: 7, size: 0 }, Call::RemoveElement(key(4, 1))] {
         assert_eq!(start.call(call, &[]).number, 0);
     }
-    // the free header
+    // the free slot and the free header
+    const GONE: usize = 3 * FRAME;
     const FREE: usize = 2 * HEADER;
-    let breaks: [(&str, fn(&mut Host)); 26] = [
+    let breaks: [(&str, fn(&mut Host)); 33] = [
         ("generation 0", |h| h.head[8] = 0),
         ("generation past the last", |h| h.head[8] = 4_294_967_296),
         ("element extent past its capacity", |h| h.head[1] = 5),
@@ -177,25 +178,34 @@ fn each_sentence_of_soundness() {
         ("element live number", |h| h.head[3] = 2),
         ("shared live number", |h| h.head[7] = 3),
         ("a frame's generation past the last", |h| h.elems[0] = 4_294_967_296),
-        ("element chain past the extent", |h| h.elems[19] = 5),
-        ("element chain at a live slot", |h| h.elems[19] = 1),
-        ("element chain without end", |h| h.elems[19] = 4),
+        ("element chain past the extent", |h| h.elems[GONE + NEXT] = 5),
+        ("element chain at a live slot", |h| h.elems[GONE + NEXT] = 1),
+        ("element chain without end", |h| h.elems[GONE + NEXT] = 4),
         ("free element slot off the chain", |h| h.head[2] = 0),
         ("shared chain past the extent", |h| h.shared[FREE + NEXT_FREE] = 4),
         ("shared chain at a live slot", |h| h.shared[FREE + NEXT_FREE] = 1),
         ("free shared slot off the chain", |h| h.head[6] = 0),
         ("shared chain without end", |h| h.shared[FREE + NEXT_FREE] = 3),
-        ("payload in a free slot", |h| h.elems[16] = 1),
-        ("class in a free slot", |h| h.elems[17] = 1),
-        ("previous in a free slot", |h| h.elems[18] = 1),
+        ("payload in a free slot", |h| h.elems[GONE + PAYLOAD] = 1),
+        ("class in a free slot", |h| h.elems[GONE + CLASS] = 1),
+        ("previous in a free slot", |h| h.elems[GONE + PREVIOUS] = 1),
+        ("size in a free slot", |h| h.elems[GONE + SIZE] = 1),
         ("value in a free header", |h| h.shared[FREE + VALUE] = 1),
         ("mark on a free header", |h| h.shared[FREE + MARK] = 1),
+        ("total on a free header", |h| h.shared[FREE + TOTAL] = 1),
         ("next free in a live header", |h| h.shared[NEXT_FREE] = 3),
         ("mark that is neither 0 nor 1", |h| h.shared[MARK] = 2),
-        ("next to a free slot", |h| h.elems[4] = 4),
-        ("previous that does not undo next", |h| h.elems[3] = 1),
-        ("a class that is free", |h| h.elems[7] = 3),
+        ("next to a free slot", |h| h.elems[NEXT] = 4),
+        ("previous that does not undo next", |h| h.elems[PREVIOUS] = 1),
+        ("a class that is free", |h| h.elems[FRAME + CLASS] = 3),
         ("a count that is not the ring's", |h| h.shared[COUNT] = 3),
+        ("a total one more than the ring's", |h| h.shared[TOTAL] += 1),
+        ("a total one less", |h| h.shared[HEADER + TOTAL] -= 1),
+        ("totals exchanged", |h| (h.shared[TOTAL], h.shared[HEADER + TOTAL]) = (300, 600)),
+        ("another size", |h| h.elems[2 * FRAME + SIZE] = 501),
+        ("a size past a u32, the total with it", |h| {
+            (h.elems[FRAME + SIZE], h.shared[HEADER + TOTAL]) = (1 << 32, 1 << 32)
+        }),
     ];
     assert_eq!(start.call(Call::Check, &[]).number, 0);
     for (what, damage) in breaks {

@@ -8,17 +8,17 @@ use model::{FRAME, HEADER, PAIR};
 const FRAMES: u64 = 65_536;
 const SMALL_STACK: usize = 256 * 1024;
 
-/// Rings of one, every other one sealed, where run k has its header in the shared slot that `header_of` gives.
+/// Rings of one, every other one sealed, where run k has its header in the shared slot that `header_of` gives, and as many bytes.
 fn compressed(header_of: fn(u64) -> u64) {
     let mut head = [FRAMES, FRAMES, 0, FRAMES, FRAMES, FRAMES, 0, FRAMES, 1];
-    let mut elems: Vec<u64> = (1..=FRAMES).flat_map(|k| [1, 10 * k, header_of(k), k, k]).collect();
-    let header = |c: u64| -> [u64; HEADER] { [1, 1_000_000 + c, 0, c % 2] };
+    let mut elems: Vec<u64> = (1..=FRAMES).flat_map(|k| [1, 10 * k, header_of(k), k, k, header_of(k)]).collect();
+    let header = |c: u64| -> [u64; HEADER] { [1, 1_000_000 + c, 0, c % 2, c] };
     let mut shared: Vec<u64> = (1..=FRAMES).flat_map(header).collect();
     let mut scratch = vec![9; elems.len()];
     let said =
         run(&mut head, &mut elems, &mut shared, &Call::CompressCanonical { reset: 0 }, &mut scratch, &mut [0; 4]);
     assert_eq!(said, 0);
-    assert!((1..=FRAMES).flat_map(|k| [2, 10 * k, k, k, k]).eq(elems));
+    assert!((1..=FRAMES).flat_map(|k| [2, 10 * k, k, k, k, header_of(k)]).eq(elems));
     assert!((1..=FRAMES).map(header_of).flat_map(header).eq(shared));
     assert!(scratch.iter().all(|&n| n == 0));
 }
@@ -29,8 +29,8 @@ fn moved_down(header_of: fn(u64) -> u64) {
     let live = FRAMES - 1;
     let mut head = [FRAMES, FRAMES, 1, live, FRAMES, FRAMES, 1, live, 1];
     let mut elems = vec![0; FRAME];
-    elems.extend((2..=FRAMES).flat_map(|k| [1, 10 * k, header_of(k), k, k]));
-    let header = |c: u64| -> [u64; HEADER] { [1, 1_000_000 + c, 0, c % 2] };
+    elems.extend((2..=FRAMES).flat_map(|k| [1, 10 * k, header_of(k), k, k, header_of(k)]));
+    let header = |c: u64| -> [u64; HEADER] { [1, 1_000_000 + c, 0, c % 2, c] };
     let mut shared = vec![0; HEADER];
     shared.extend((2..=FRAMES).flat_map(header));
     let mut pairs = vec![9; live as usize * PAIR];
@@ -39,7 +39,9 @@ fn moved_down(header_of: fn(u64) -> u64) {
     assert_eq!((said, out), (0, [live, 0, 0, 0]));
     assert_eq!(head, [FRAMES, live, 0, live, FRAMES, live, 0, live, 2]);
     let (last_row, last_header) = ([0; FRAME], [0; HEADER]);
-    assert!((2..=FRAMES).flat_map(|k| [2, 10 * k, header_of(k) - 1, k - 1, k - 1]).chain(last_row).eq(elems));
+    assert!(
+        (2..=FRAMES).flat_map(|k| [2, 10 * k, header_of(k) - 1, k - 1, k - 1, header_of(k)]).chain(last_row).eq(elems)
+    );
     assert!((2..=FRAMES).flat_map(header).chain(last_header).eq(shared));
     assert!((2..=FRAMES).flat_map(|k| [k, 1, k - 1, 2]).eq(pairs));
 }

@@ -4,8 +4,8 @@
 
 use archive::{Host, Lent, UNTOUCHED, every_call, key, run_at};
 use model::door::{self, Call};
-use model::layout::{COUNT, MARK};
-use model::{Key, check};
+use model::layout::{COUNT, MARK, SIZE, TOTAL};
+use model::{FRAME, HEADER, Key, check};
 use std::collections::BTreeSet;
 use std::ffi::{c_int, c_void};
 use std::ptr::{null_mut, slice_from_raw_parts_mut};
@@ -130,8 +130,8 @@ fn model(host: &Host, call: &Call, buffer: &[u64]) -> (u64, [Vec<u64>; 5]) {
 /// Runs of slots 1, 3 and of slot 2, in tables of these capacities.
 fn two_runs(elems: u64, shared: u64) -> Host {
     let mut host = Host::fresh(elems, shared);
-    let new_run = |payload, value| Call::InsertSurject { payload, value };
-    for call in [new_run(1, 2), new_run(3, 4), Call::Insert(key(1, 1), 5)] {
+    let new_run = |payload, value| Call::InsertSurject { payload, value, size: 9 };
+    for call in [new_run(1, 2), new_run(3, 4), Call::Insert(key(1, 1), 5, 9)] {
         assert_eq!(host.call(call, &[]).number, 0);
     }
     host
@@ -158,6 +158,8 @@ fn hosts() -> Vec<Host> {
         changed(|host| host.elems[2] = 2),
         changed(|host| host.shared[COUNT] = 3),
         changed(|host| host.shared[MARK] = 2),
+        changed(|host| host.shared[TOTAL] += 1),
+        changed(|host| (host.elems[FRAME + SIZE], host.shared[HEADER + TOTAL]) = (1 << 32, 1 << 32)),
         changed(|host| host.elems.truncate(19)),
         changed(|host| host.shared.push(0)),
         changed(|host| host.elems.clear()),
