@@ -100,6 +100,7 @@ table =
     step fresh43 [] (newRun 10 100 most) gives ok (1 ∷ 1 ∷ []) (great (ez 1 10 1 1 1 most ++ zeros frameWidth 3) 1 most) [] ∷
     step fresh43 [] (newRun 10 100 4294967296) gives ok (1 ∷ 1 ∷ []) (great (ez 1 10 1 1 1 most ++ zeros frameWidth 3) 1 most) [] ∷
     step (great (ez 1 10 1 1 1 most ++ zeros frameWidth 3) 1 most) [] (insert (key 1 1) 11 most) gives ok (2 ∷ 1 ∷ []) (great (ez 1 10 1 2 2 most ++ ez 1 11 1 1 1 most ++ zeros frameWidth 2) 2 8589934590) [] ∷
+    step (great (ez 1 10 1 1 1 most ++ zeros frameWidth 3) 1 most) [] (insert (key 1 1) 11 4294967296) gives ok (2 ∷ 1 ∷ []) (great (ez 1 10 1 2 2 most ++ ez 1 11 1 1 1 most ++ zeros frameWidth 2) 2 8589934590) [] ∷
     []
 
 pub sizes : map did table ≡ map says table
@@ -172,3 +173,19 @@ alone z = record { runs = (key 1 1 ∷ []) ∷ []; sealed = []; sizes = given (k
 pub total-given : Agrees (single 7 7) (alone 8) → ⊥
 unfolding cell isLive found othersOf
 total-given A = let z : _≡_ {A = ℕ} 7 8 = A .totals (key 1 1) refl in omega arith
+
+-- in a run of two, the sizes of both frames as they were given, each by its own key
+abbrev both : (first second : ℕ) → History
+both y z = record { runs = (key 1 1 ∷ key 2 1 ∷ []) ∷ []; sealed = []; sizes = given (key 2 1) z ∷ given (key 1 1) y ∷ []; put = 2; taken = 0; generation = 1 }
+
+pub total-given-both : Agrees two (both 7 19) → ⊥
+unfolding cell isLive found othersOf
+total-given-both A = let z : _≡_ {A = ℕ} 27 26 = A .totals (key 1 1) refl in omega arith
+
+pub given-each : map (λ k. givenFor k (both 7 19 .sizes)) (key 1 1 ∷ key 2 1 ∷ key 2 2 ∷ []) ≡ 7 ∷ 19 ∷ 0 ∷ []
+given-each = refl
+
+-- a size past a u32 is noted as it is kept
+pub noted-most : sized-by fresh43 nothing (newRun 10 100 4294967296 ∷ []) ≡ given (key 1 1) most ∷ []
+unfolding rules sized-by
+noted-most = refl
