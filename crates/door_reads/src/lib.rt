@@ -3,13 +3,15 @@ use gate::gate;
 use rules::Done;
 use rules::Exchanged;
 use rules::Head;
+use rules::HeadExchanged;
+use rules::HeadNumber;
 use rules::Key;
 use rules::Number;
 use rules::Same;
 ghost use mathlib.Core.Bool.{false};
 ghost use mathlib.Core.List.{[]};
 ghost use Rattle.rules.specs.Tables.{stateOf};
-ghost use Rattle.rules.specs.Answers.{leaves, saidDone, saidNumber, saidSame, saidExchanged};
+ghost use Rattle.rules.specs.Answers.{leaves, saidDone, saidNumber, saidSame, afterNumber, afterExchanged};
 ghost use Rattle.rules.specs.Calls.{AtDoor, lenSurject, inSameSurject, getElement, getShared, getSize, getTotal, lookup, setElement, setShared, exchange};
 
 // Rules 1, reads and sets: the size of a class.
@@ -83,21 +85,29 @@ pub fn lookup(head: Head, elems: &[u64], shared: &[u64], key: Key) -> Done
 }
 
 // A new payload; the answer is the old one.
-pub fn set(head: Head, elems: &mut [u64], shared: &[u64], key: Key, payload: u64) -> Number
-    ensures { λ r. ⌜ AtDoor (stateOf head (now (elems .entry)) (now (shared .entry))) [] (setElement key payload) (leaves head (now (elems .exit)) (now (shared .entry)) [] (saidNumber r false)) ⌝ }
+pub fn set(head: Head, elems: &mut [u64], shared: &[u64], key: Key, payload: u64) -> HeadNumber
+    ensures { λ r. ⌜ AtDoor (stateOf head (now (elems .entry)) (now (shared .entry))) [] (setElement key payload) (afterNumber r (now (elems .exit)) (now (shared .entry)) []) ⌝ }
 {
     match gate(head, elems, shared) {
-        Done::Refused(n) => Number::Refused(n),
+        Done::Refused(n) => HeadNumber {
+            head,
+            answer: Number::Refused(n),
+            over: false,
+        },
         Done::Done => sets::set(head, elems, shared, key, payload),
     }
 }
 
 // A new value of the class; the answer is the old one.
-pub fn set_shared(head: Head, elems: &[u64], shared: &mut [u64], key: Key, value: u64) -> Number
-    ensures { λ r. ⌜ AtDoor (stateOf head (now (elems .entry)) (now (shared .entry))) [] (setShared key value) (leaves head (now (elems .entry)) (now (shared .exit)) [] (saidNumber r false)) ⌝ }
+pub fn set_shared(head: Head, elems: &[u64], shared: &mut [u64], key: Key, value: u64) -> HeadNumber
+    ensures { λ r. ⌜ AtDoor (stateOf head (now (elems .entry)) (now (shared .entry))) [] (setShared key value) (afterNumber r (now (elems .entry)) (now (shared .exit)) []) ⌝ }
 {
     match gate(head, elems, shared) {
-        Done::Refused(n) => Number::Refused(n),
+        Done::Refused(n) => HeadNumber {
+            head,
+            answer: Number::Refused(n),
+            over: false,
+        },
         Done::Done => sets::set_shared(head, elems, shared, key, value),
     }
 }
@@ -109,14 +119,17 @@ pub fn exchange_disjoint_shared(
     shared: &mut [u64],
     keys: [Key; 4],
     values: [u64; 4],
-) -> Exchanged
-    ensures { λ r. ⌜ AtDoor (stateOf head (now (elems .entry)) (now (shared .entry))) [] (exchange keys values) (leaves head (now (elems .entry)) (now (shared .exit)) [] (saidExchanged r)) ⌝ }
+) -> HeadExchanged
+    ensures { λ r. ⌜ AtDoor (stateOf head (now (elems .entry)) (now (shared .entry))) [] (exchange keys values) (afterExchanged r (now (elems .entry)) (now (shared .exit)) []) ⌝ }
 {
     match gate(head, elems, shared) {
-        Done::Refused(n) => Exchanged {
-            answer: Done::Refused(n),
-            old: [0; 4],
-        },
+        Done::Refused(n) => {
+            let answer = Exchanged {
+                answer: Done::Refused(n),
+                old: [0; 4],
+            };
+            HeadExchanged { head, answer }
+        }
         Done::Done => exchange::exchange_disjoint_shared(head, elems, shared, keys, values),
     }
 }

@@ -3,13 +3,14 @@ use gate::gate;
 use rules::Done;
 use rules::Head;
 use rules::HeadNumber;
+use rules::HeadSeal;
 use rules::Key;
 use rules::Number;
 use rules::Seal;
 ghost use mathlib.Core.Bool.{false};
 ghost use mathlib.Core.List.{[]};
 ghost use Rattle.rules.specs.Tables.{stateOf};
-ghost use Rattle.rules.specs.Answers.{leaves, saidNumber, saidSeal, afterNumber};
+ghost use Rattle.rules.specs.Answers.{leaves, saidNumber, afterSeal, afterNumber};
 ghost use Rattle.rules.specs.Calls.{AtDoor, removeShared, list, drain, seal, drainAll};
 
 // Rules 9: list.
@@ -57,11 +58,14 @@ pub fn drain(
 }
 
 // Ticket 1: seal a run.
-pub fn seal(head: Head, elems: &[u64], shared: &mut [u64], key: Key, out: &mut [u64]) -> Seal
-    ensures { λ r. ⌜ AtDoor (stateOf head (now (elems .entry)) (now (shared .entry))) (now (out .entry)) (seal key) (leaves head (now (elems .entry)) (now (shared .exit)) (now (out .exit)) (saidSeal r)) ⌝ }
+pub fn seal(head: Head, elems: &[u64], shared: &mut [u64], key: Key, out: &mut [u64]) -> HeadSeal
+    ensures { λ r. ⌜ AtDoor (stateOf head (now (elems .entry)) (now (shared .entry))) (now (out .entry)) (seal key) (afterSeal r (now (elems .entry)) (now (shared .exit)) (now (out .exit))) ⌝ }
 {
     match gate(head, elems, shared) {
-        Done::Refused(n) => Seal::Refused(n),
+        Done::Refused(n) => HeadSeal {
+            head,
+            answer: Seal::Refused(n),
+        },
         Done::Done => seals::seal(head, elems, shared, key, out),
     }
 }

@@ -1,7 +1,8 @@
-// New run, insert, union and remove at the host's door: the gate, then the call at the inner door. Nothing is required of the caller.
+// New run, insert, union, its undo, and remove at the host's door: the gate, then the call at the inner door. Nothing is required of the caller.
 use gate::gate;
 use rules::Done;
 use rules::Head;
+use rules::HeadDone;
 use rules::HeadInserted;
 use rules::HeadJoined;
 use rules::HeadRemoved;
@@ -12,8 +13,8 @@ use rules::Removed;
 ghost use mathlib.Core.Bool.{false};
 ghost use mathlib.Core.List.{[]};
 ghost use Rattle.rules.specs.Tables.{stateOf};
-ghost use Rattle.rules.specs.Answers.{afterInserted, afterJoined, afterRemoved};
-ghost use Rattle.rules.specs.Calls.{AtDoor, newRun, insert, union, remove};
+ghost use Rattle.rules.specs.Answers.{afterDone, afterInserted, afterJoined, afterRemoved};
+ghost use Rattle.rules.specs.Calls.{AtDoor, newRun, insert, union, undo, remove};
 
 // Rules 4: new run.
 pub fn insert_surject(
@@ -65,6 +66,20 @@ pub fn union(head: Head, elems: &mut [u64], shared: &mut [u64], j: Key, k: Key) 
             answer: Joined::Refused(n),
         },
         Done::Done => unions::union(head, elems, shared, j, k),
+    }
+}
+
+// Ticket 7: the last union is taken back.
+pub fn undo(head: Head, elems: &mut [u64], shared: &mut [u64]) -> HeadDone
+    ensures { λ r. ⌜ AtDoor (stateOf head (now (elems .entry)) (now (shared .entry))) [] undo (afterDone r (now (elems .exit)) (now (shared .exit)) []) ⌝ }
+{
+    match gate(head, elems, shared) {
+        Done::Refused(n) => {
+            let answer = Done::Refused(n);
+            let over = false;
+            HeadDone { head, answer, over }
+        }
+        Done::Done => undos::undo(head, elems, shared),
     }
 }
 

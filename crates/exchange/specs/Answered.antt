@@ -3,7 +3,7 @@ use Prim.Native.Nat.{ℕ}
 use mathlib.Core.List.{List, map}
 use Rattle.rules.specs.declared.Refusal.the-variants.{SameClass}
 use Rattle.rules.specs.Notation.{if_then_else_}
-use Rattle.rules.specs.Tables.{classOf, valueOf, State, withShared}
+use Rattle.rules.specs.Tables.{classOf, valueOf, State, withShared, forgetting}
 use Rattle.rules.specs.Refusals.{Ruling, refuse, answer}
 use Rattle.rules.specs.Exchange.{allDiffer, valued}
 
@@ -12,5 +12,5 @@ unfoldable pub exchangeAt : State → (slots values : List ℕ) → Ruling
 exchangeAt st xs values =
     let classes = map (classOf (st .elems)) xs in
     if allDiffer classes
-    then answer (map (valueOf (st .shared)) classes) (withShared st (valued (st .shared) classes values))
+    then answer (map (valueOf (st .shared)) classes) (forgetting (withShared st (valued (st .shared) classes values)))
     else refuse SameClass

@@ -7,28 +7,29 @@ use rules::FRAME;
 use rules::Found;
 use rules::HEADER;
 use rules::Head;
+use rules::HeadExchanged;
 use rules::Key;
 use rules::Refusal;
 use rules::VALUE;
 ghost use mathlib.Core.Path.{_≡_};
-ghost use mathlib.Core.List.{List, [], _∷_};
+ghost use mathlib.Core.List.{[], _∷_};
 ghost use Rattle.rules.specs.Tables.{stateOf, valueOf};
 ghost use Rattle.rules.specs.Exchange.{allDiffer, valued};
 ghost use Rattle.rules.specs.Calls.{Ready, step, exchange};
-ghost use Rattle.rules.specs.Answers.{leaves, saidExchanged};
-ghost use Rattle.rules.specs.declared.Head.{Head};
+ghost use Rattle.rules.specs.Answers.{saidExchanged, afterExchanged};
 ghost use Rattle.rules.specs.Refusals.{saidRefused, outcome};
 ghost use Rattle.exchange.specs.Asked.{FourHeaders, FourClassed};
 ghost use Rattle.exchange.specs.Answered.{exchangeAt};
 
-// A refused exchange has zeros for the old values.
-fn refused(refusal: Refusal) -> Exchanged
-    ensures { λ r. ⌜ saidExchanged r ≡ saidRefused refusal ⌝ }
+// A refused exchange leaves the head, and has zeros for the old values.
+fn refused(head: Head, refusal: Refusal) -> HeadExchanged
+    ensures { λ r. ⌜ (r .head ≡ head) × (saidExchanged (r .answer) ≡ saidRefused refusal) ⌝ }
 {
-    Exchanged {
+    let answer = Exchanged {
         answer: Done::Refused(refusal),
         old: [0; 4],
-    }
+    };
+    HeadExchanged { head, answer }
 }
 
 // Refusals 4: no two of the classes are one.
@@ -74,6 +75,7 @@ fn store(shared: &mut [u64], a: u64, b: u64, c: u64, d: u64, values: [u64; 4]) -
 
 // The exchange on the slots of four live keys.
 fn exchange_at(
+    head: Head,
     elems: &[u64],
     shared: &mut [u64],
     w: u64,
@@ -81,9 +83,9 @@ fn exchange_at(
     y: u64,
     z: u64,
     values: [u64; 4],
-) -> Exchanged
+) -> HeadExchanged
     requires { ⌜ FourClassed (now elems) (now shared) w x y z ⌝ }
-    ensures { λ r. ⌜ ((h : Head) → leaves h (now (elems .entry)) (now (shared .exit)) [] (saidExchanged r) ≡ outcome (stateOf h (now (elems .entry)) (now (shared .entry))) [] (exchangeAt (stateOf h (now (elems .entry)) (now (shared .entry))) (w ∷ x ∷ y ∷ z ∷ []) values)) ⌝ }
+    ensures { λ r. ⌜ afterExchanged r (now (elems .entry)) (now (shared .exit)) [] ≡ outcome (stateOf head (now (elems .entry)) (now (shared .entry))) [] (exchangeAt (stateOf head (now (elems .entry)) (now (shared .entry))) (w ∷ x ∷ y ∷ z ∷ []) values) ⌝ }
 {
     let a = slots::get(elems, FRAME, CLASS, w);
     let b = slots::get(elems, FRAME, CLASS, x);
@@ -91,12 +93,14 @@ fn exchange_at(
     let d = slots::get(elems, FRAME, CLASS, z);
     if all_differ(a, b, c, d) {
         let old = store(shared, a, b, c, d, values);
-        return Exchanged {
+        let answer = Exchanged {
             answer: Done::Done,
             old,
         };
+        let next = head.forget();
+        return HeadExchanged { head: next, answer };
     }
-    refused(Refusal::SameClass)
+    refused(head, Refusal::SameClass)
 }
 
 // The exchange at four keys, all looked up before any other test.
@@ -109,27 +113,27 @@ fn exchange_four(
     third: Key,
     fourth: Key,
     values: [u64; 4],
-) -> Exchanged
+) -> HeadExchanged
     requires { ⌜ Ready (stateOf head (now elems) (now shared)) ⌝ }
-    ensures { λ r. ⌜ leaves head (now (elems .entry)) (now (shared .exit)) [] (saidExchanged r) ≡ step (stateOf head (now (elems .entry)) (now (shared .entry))) [] (exchange (first ∷ second ∷ third ∷ fourth ∷ []) values) ⌝ }
+    ensures { λ r. ⌜ afterExchanged r (now (elems .entry)) (now (shared .exit)) [] ≡ step (stateOf head (now (elems .entry)) (now (shared .entry))) [] (exchange (first ∷ second ∷ third ∷ fourth ∷ []) values) ⌝ }
 {
     let w = match slots::find(head, elems, first) {
         Found::Live(w) => w,
-        Found::Dead(cause) => return refused(Refusal::Dead(cause)),
+        Found::Dead(cause) => return refused(head, Refusal::Dead(cause)),
     };
     let x = match slots::find(head, elems, second) {
         Found::Live(x) => x,
-        Found::Dead(cause) => return refused(Refusal::Dead(cause)),
+        Found::Dead(cause) => return refused(head, Refusal::Dead(cause)),
     };
     let y = match slots::find(head, elems, third) {
         Found::Live(y) => y,
-        Found::Dead(cause) => return refused(Refusal::Dead(cause)),
+        Found::Dead(cause) => return refused(head, Refusal::Dead(cause)),
     };
     let z = match slots::find(head, elems, fourth) {
         Found::Live(z) => z,
-        Found::Dead(cause) => return refused(Refusal::Dead(cause)),
+        Found::Dead(cause) => return refused(head, Refusal::Dead(cause)),
     };
-    exchange_at(elems, shared, w, x, y, z, values)
+    exchange_at(head, elems, shared, w, x, y, z, values)
 }
 
 // Four keys and four new shared values go in together; the four old values come back in key order.
@@ -139,9 +143,9 @@ pub fn exchange_disjoint_shared(
     shared: &mut [u64],
     keys: [Key; 4],
     values: [u64; 4],
-) -> Exchanged
+) -> HeadExchanged
     requires { ⌜ Ready (stateOf head (now elems) (now shared)) ⌝ }
-    ensures { λ r. ⌜ leaves head (now (elems .entry)) (now (shared .exit)) [] (saidExchanged r) ≡ step (stateOf head (now (elems .entry)) (now (shared .entry))) [] (exchange keys values) ⌝ }
+    ensures { λ r. ⌜ afterExchanged r (now (elems .entry)) (now (shared .exit)) [] ≡ step (stateOf head (now (elems .entry)) (now (shared .entry))) [] (exchange keys values) ⌝ }
 {
     let first = keys[0];
     let second = keys[1];

@@ -9,12 +9,13 @@ use Rattle.rules.specs.declared.Refusal.{Refusal}
 use Rattle.rules.specs.Tables.{State}
 use Rattle.rules.specs.Answers.{leaves, saidDone}
 use Rattle.rules.specs.Refusals.{refuse, outcome}
+use Rattle.rules.specs.Undo.{Remembers}
 use Rattle.rules.specs.Calls.{Call, check, Ready, AtDoor}
 use Rattle.rules.proofs.laws.Doors.{passed}
 use Rattle.gate.specs.Gate.{Gated}
 
 module _ (st : State) (r : Done) (g : Gated st r) where
-  pub opened : r ≡ done.Done → Ready st
+  pub opened : r ≡ done.Done → Ready st × Remembers st
   opened e = subst (Gated st) e g
 
   pub shut : (n : Refusal) → r ≡ done.Refused n → (lent : List ℕ) (c : Call) → AtDoor st lent c (outcome st lent (refuse n))

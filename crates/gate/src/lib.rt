@@ -1,4 +1,4 @@
-// The host's gate: shape (1) and soundness (2), before any call. Nothing is required of the caller.
+// The host's gate: shape (1) and soundness (2), what the head remembers included (Ticket 7), before any call. Nothing is required of the caller.
 use rules::Done;
 use rules::Head;
 use rules::Refusal;
@@ -17,6 +17,9 @@ pub fn gate(head: Head, elems: &[u64], shared: &[u64]) -> Done
         return Done::Refused(Refusal::Shape);
     }
     if !sound::is_sound(head, elems, shared) {
+        return Done::Refused(Refusal::Unsound);
+    }
+    if !undos::remembers(head, elems, shared) {
         return Done::Refused(Refusal::Unsound);
     }
     Done::Done

@@ -5,14 +5,14 @@ use numbers::answers;
 use rules::Key;
 ghost use mathlib.Core.Path.{_≡_};
 ghost use mathlib.Core.List.{[]};
-ghost use Rattle.rules.specs.Calls.{newRun, insert, union, remove, removeShared};
+ghost use Rattle.rules.specs.Calls.{newRun, insert, union, undo, remove, removeShared};
 ghost use Rattle.numbers.specs.Numbers.{values, valuesOver, removalNumbers};
 ghost use Rattle.promises.specs.Host.{keyOf, AtHost, left};
 
 // Rules 4: begins a run.
 #[no_mangle]
 pub extern "C" fn doorsedge_insert_surject(
-    head: &mut [u64; 9],
+    head: &mut [u64; 13],
     elems: &mut [u64],
     shared: &mut [u64],
     payload: u64,
@@ -33,7 +33,7 @@ pub extern "C" fn doorsedge_insert_surject(
 // Rules 5: puts a frame in, immediately after the key's.
 #[no_mangle]
 pub extern "C" fn doorsedge_insert(
-    head: &mut [u64; 9],
+    head: &mut [u64; 13],
     elems: &mut [u64],
     shared: &mut [u64],
     slot: u64,
@@ -65,7 +65,7 @@ pub extern "C" fn doorsedge_insert(
 // Rules 6: joins two runs.
 #[no_mangle]
 pub extern "C" fn doorsedge_union(
-    head: &mut [u64; 9],
+    head: &mut [u64; 13],
     elems: &mut [u64],
     shared: &mut [u64],
     slot0: u64,
@@ -96,10 +96,23 @@ pub extern "C" fn doorsedge_union(
     number
 }
 
+// Ticket 7: takes the last union back.
+#[no_mangle]
+pub extern "C" fn doorsedge_undo(head: &mut [u64; 13], elems: &mut [u64], shared: &mut [u64]) -> u64
+    ensures { λ r. ⌜ AtHost undo values (now (head .entry)) (now (elems .entry)) (now (shared .entry)) [] [] (left r (now (head .exit)) (now (elems .exit)) (now (shared .exit)) [] []) ⌝ }
+{
+    let step = door::undo(unpack(*head), elems, shared);
+    let next = step.head;
+    let answer = step.answer;
+    let number = answers::plain(answer);
+    store(head, next, number);
+    number
+}
+
 // Rules 7: removes a frame.
 #[no_mangle]
 pub extern "C" fn doorsedge_remove_element(
-    head: &mut [u64; 9],
+    head: &mut [u64; 13],
     elems: &mut [u64],
     shared: &mut [u64],
     slot: u64,
@@ -127,7 +140,7 @@ pub extern "C" fn doorsedge_remove_element(
 // Rules 8: removes the key's whole run.
 #[no_mangle]
 pub extern "C" fn doorsedge_remove_shared(
-    head: &mut [u64; 9],
+    head: &mut [u64; 13],
     elems: &mut [u64],
     shared: &mut [u64],
     slot: u64,

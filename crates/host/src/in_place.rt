@@ -1,4 +1,4 @@
-// The head lent in place: a host lends its own struct, which lies as the nine numbers do (docs/LAYOUT.md).
+// The head lent in place: a host lends its own struct, which lies as the thirteen numbers do (docs/LAYOUT.md).
 use numbers::answers;
 use rules::Head;
 use rules::Key;

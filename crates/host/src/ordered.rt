@@ -10,7 +10,7 @@ ghost use Rattle.promises.specs.Host.{AtHost, left, isSet};
 // Ticket 3: moves all frames down in slot order; an old key and its new one for each.
 #[no_mangle]
 pub extern "C" fn doorsedge_compress_with(
-    head: &mut [u64; 9],
+    head: &mut [u64; 13],
     elems: &mut [u64],
     shared: &mut [u64],
     reset: u64,

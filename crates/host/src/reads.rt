@@ -11,7 +11,7 @@ ghost use Rattle.promises.specs.Host.{keyOf, AtHost, left};
 // Rules 1: how many frames the key's run has.
 #[no_mangle]
 pub extern "C" fn doorsedge_len_surject(
-    head: &[u64; 9],
+    head: &[u64; 13],
     elems: &[u64],
     shared: &[u64],
     slot: u64,
@@ -35,7 +35,7 @@ pub extern "C" fn doorsedge_len_surject(
 // Rules 1: whether both keys are of one run.
 #[no_mangle]
 pub extern "C" fn doorsedge_in_same_surject(
-    head: &[u64; 9],
+    head: &[u64; 13],
     elems: &[u64],
     shared: &[u64],
     slot0: u64,
@@ -65,7 +65,7 @@ pub extern "C" fn doorsedge_in_same_surject(
 // Rules 1: the payload.
 #[no_mangle]
 pub extern "C" fn doorsedge_get(
-    head: &[u64; 9],
+    head: &[u64; 13],
     elems: &[u64],
     shared: &[u64],
     slot: u64,
@@ -89,7 +89,7 @@ pub extern "C" fn doorsedge_get(
 // Rules 1: the shared value of the key's run.
 #[no_mangle]
 pub extern "C" fn doorsedge_get_shared(
-    head: &[u64; 9],
+    head: &[u64; 13],
     elems: &[u64],
     shared: &[u64],
     slot: u64,
@@ -113,7 +113,7 @@ pub extern "C" fn doorsedge_get_shared(
 // Ticket 6: the size of the key's frame.
 #[no_mangle]
 pub extern "C" fn doorsedge_get_size(
-    head: &[u64; 9],
+    head: &[u64; 13],
     elems: &[u64],
     shared: &[u64],
     slot: u64,
@@ -137,7 +137,7 @@ pub extern "C" fn doorsedge_get_size(
 // Ticket 6: the total of the key's run.
 #[no_mangle]
 pub extern "C" fn doorsedge_get_total(
-    head: &[u64; 9],
+    head: &[u64; 13],
     elems: &[u64],
     shared: &[u64],
     slot: u64,
@@ -161,7 +161,7 @@ pub extern "C" fn doorsedge_get_total(
 // Ticket 5: whether the key is live, and why not.
 #[no_mangle]
 pub extern "C" fn doorsedge_lookup(
-    head: &[u64; 9],
+    head: &[u64; 13],
     elems: &[u64],
     shared: &[u64],
     slot: u64,
@@ -184,7 +184,7 @@ pub extern "C" fn doorsedge_lookup(
 // Rules 9: the keys of the run, in ring order from the key.
 #[no_mangle]
 pub extern "C" fn doorsedge_list(
-    head: &[u64; 9],
+    head: &[u64; 13],
     elems: &[u64],
     shared: &[u64],
     slot: u64,

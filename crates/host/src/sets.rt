@@ -1,4 +1,5 @@
-// Sets: keys, rings and the head stay as they are.
+// Sets: keys and rings stay as they are, and nothing is left to undo.
+use heads::store;
 use heads::unpack;
 use numbers::answers;
 use rules::Key;
@@ -35,7 +36,7 @@ fn four_keys(keys: [u64; 8]) -> [Key; 4]
 // Rules 1: stores a payload.
 #[no_mangle]
 pub extern "C" fn doorsedge_set(
-    head: &[u64; 9],
+    head: &mut [u64; 13],
     elems: &mut [u64],
     shared: &[u64],
     slot: u64,
@@ -43,9 +44,9 @@ pub extern "C" fn doorsedge_set(
     payload: u64,
     out: &mut [u64; 1],
 ) -> u64
-    ensures { λ r. ⌜ AtHost (setElement (keyOf slot generation) payload) values (now (head .entry)) (now (elems .entry)) (now (shared .entry)) [] (now (out .entry)) (left r (now (head .entry)) (now (elems .exit)) (now (shared .entry)) [] (now (out .exit))) ⌝ }
+    ensures { λ r. ⌜ AtHost (setElement (keyOf slot generation) payload) values (now (head .entry)) (now (elems .entry)) (now (shared .entry)) [] (now (out .entry)) (left r (now (head .exit)) (now (elems .exit)) (now (shared .entry)) [] (now (out .exit))) ⌝ }
 {
-    let answer = door::set(
+    let step = door::set(
         unpack(*head),
         elems,
         shared,
@@ -55,13 +56,17 @@ pub extern "C" fn doorsedge_set(
         },
         payload,
     );
-    answers::number(answer, out)
+    let next = step.head;
+    let answer = step.answer;
+    let number = answers::number(answer, out);
+    store(head, next, number);
+    number
 }
 
 // Rules 1: stores the shared value of the key's run.
 #[no_mangle]
 pub extern "C" fn doorsedge_set_shared(
-    head: &[u64; 9],
+    head: &mut [u64; 13],
     elems: &[u64],
     shared: &mut [u64],
     slot: u64,
@@ -69,9 +74,9 @@ pub extern "C" fn doorsedge_set_shared(
     value: u64,
     out: &mut [u64; 1],
 ) -> u64
-    ensures { λ r. ⌜ AtHost (setShared (keyOf slot generation) value) values (now (head .entry)) (now (elems .entry)) (now (shared .entry)) [] (now (out .entry)) (left r (now (head .entry)) (now (elems .entry)) (now (shared .exit)) [] (now (out .exit))) ⌝ }
+    ensures { λ r. ⌜ AtHost (setShared (keyOf slot generation) value) values (now (head .entry)) (now (elems .entry)) (now (shared .entry)) [] (now (out .entry)) (left r (now (head .exit)) (now (elems .entry)) (now (shared .exit)) [] (now (out .exit))) ⌝ }
 {
-    let answer = door::set_shared(
+    let step = door::set_shared(
         unpack(*head),
         elems,
         shared,
@@ -81,29 +86,37 @@ pub extern "C" fn doorsedge_set_shared(
         },
         value,
     );
-    answers::number(answer, out)
+    let next = step.head;
+    let answer = step.answer;
+    let number = answers::number(answer, out);
+    store(head, next, number);
+    number
 }
 
 // Rules 13: four keys and four new shared values go in together.
 #[no_mangle]
 pub extern "C" fn doorsedge_exchange_shared4(
-    head: &[u64; 9],
+    head: &mut [u64; 13],
     elems: &[u64],
     shared: &mut [u64],
     keys: &[u64; 8],
     news: &[u64; 4],
     out: &mut [u64; 4],
 ) -> u64
-    ensures { λ r. ⌜ AtHost (exchange (keysOf (now (keys .entry))) (now (news .entry))) values (now (head .entry)) (now (elems .entry)) (now (shared .entry)) [] (now (out .entry)) (left r (now (head .entry)) (now (elems .entry)) (now (shared .exit)) [] (now (out .exit))) ⌝ }
+    ensures { λ r. ⌜ AtHost (exchange (keysOf (now (keys .entry))) (now (news .entry))) values (now (head .entry)) (now (elems .entry)) (now (shared .entry)) [] (now (out .entry)) (left r (now (head .exit)) (now (elems .entry)) (now (shared .exit)) [] (now (out .exit))) ⌝ }
 {
-    let exchanged = door::exchange_disjoint_shared(
+    let step = door::exchange_disjoint_shared(
         unpack(*head),
         elems,
         shared,
         four_keys(*keys),
         *news,
     );
+    let next = step.head;
+    let exchanged = step.answer;
     let answer = exchanged.answer;
     let old = exchanged.old;
-    answers::four(answer, old, out)
+    let number = answers::four(answer, old, out);
+    store(head, next, number);
+    number
 }

@@ -12,7 +12,7 @@ ghost use Rattle.promises.specs.Host.{keyOf, AtHost, left, isSet, AtFresh};
 // Rules 2: empty tables of these capacities; the head and the tables may hold anything.
 #[no_mangle]
 pub extern "C" fn doorsedge_fresh(
-    head: &mut [u64; 9],
+    head: &mut [u64; 13],
     frames: u64,
     headers: u64,
     elems: &mut [u64],
@@ -30,7 +30,7 @@ pub extern "C" fn doorsedge_fresh(
 
 // Rules 1, the check: whether head and tables are a sound state.
 #[no_mangle]
-pub extern "C" fn doorsedge_check(head: &[u64; 9], elems: &[u64], shared: &[u64]) -> u64
+pub extern "C" fn doorsedge_check(head: &[u64; 13], elems: &[u64], shared: &[u64]) -> u64
     ensures { λ r. ⌜ AtHost check values (now (head .entry)) (now (elems .entry)) (now (shared .entry)) [] [] (left r (now (head .entry)) (now (elems .entry)) (now (shared .entry)) [] []) ⌝ }
 {
     let answer = door::check(unpack(*head), elems, shared);
@@ -40,7 +40,7 @@ pub extern "C" fn doorsedge_check(head: &[u64; 9], elems: &[u64], shared: &[u64]
 // Rules 12: empty tables, the generation one higher.
 #[no_mangle]
 pub extern "C" fn doorsedge_clear(
-    head: &mut [u64; 9],
+    head: &mut [u64; 13],
     elems: &mut [u64],
     shared: &mut [u64],
     out: &mut [u64; 1],
@@ -58,7 +58,7 @@ pub extern "C" fn doorsedge_clear(
 // Rules 14: moves all frames down, runs in canonical order.
 #[no_mangle]
 pub extern "C" fn doorsedge_compress_canonical(
-    head: &mut [u64; 9],
+    head: &mut [u64; 13],
     elems: &mut [u64],
     shared: &mut [u64],
     reset: u64,
@@ -78,7 +78,7 @@ pub extern "C" fn doorsedge_compress_canonical(
 // Rules 10: removes the run frame by frame, a record for each.
 #[no_mangle]
 pub extern "C" fn doorsedge_drain(
-    head: &mut [u64; 9],
+    head: &mut [u64; 13],
     elems: &mut [u64],
     shared: &mut [u64],
     slot: u64,
@@ -108,7 +108,7 @@ pub extern "C" fn doorsedge_drain(
 // Rules 11: drains every run, then clears.
 #[no_mangle]
 pub extern "C" fn doorsedge_drain_all(
-    head: &mut [u64; 9],
+    head: &mut [u64; 13],
     elems: &mut [u64],
     shared: &mut [u64],
     records: &mut [u64],

@@ -17,10 +17,11 @@ use Rattle.rules.specs.Refusals.{Ruling, refuse, accept, Said, Outcome, outcome
 use Rattle.rules.specs.Runs.{keyValues}
 use Rattle.rules.specs.Drains as drains
 use Rattle.rules.specs.Drains.{keyWidth, ring, isShort}
+use Rattle.rules.specs.Keeping.{effect}
 use Rattle.rules.specs.Calls.{Call, list, ruling, step, Ready}
 use Rattle.rules.specs.Answers.{leaves}
 use Rattle.rules.specs.Script.{capacity, ringText}
-use Rattle.rules.proofs.laws.Kept.{kept}
+use Rattle.rules.proofs.laws.Kept.{Recalled, kept}
 use Rattle.told.specs.declared.answers.Obeyed.{Obeyed}
 use Rattle.told.specs.Put.{Put}
 use Rattle.told.specs.Texts.{printed, textOf, Places}
@@ -45,7 +46,7 @@ outcome-state st l m (accept values over next places) = refl
 -- ---- a call that needs no output buffer, whose text goes by what is said
 
 module _ (st : State) (R : Ready st) (print : Outcome → List ℕ) (call : Call)
-    (blind : (o : Outcome) → printed print o ≡ textOf print (o .said) []) (same : ruling st lends call ≡ ruling st [] call) where
+    (blind : (o : Outcome) → printed print o ≡ textOf print (o .said) []) (same : ruling st lends call ≡ ruling st [] call) (plain : Recalled (effect call) st) where
   said-alike : step st [] call .said ≡ step st lends call .said
   said-alike = outcome-said st [] lends (ruling st [] call) ∙ ap (λ (r : Ruling). outcome st lends r .said) (sym same)
 
@@ -60,7 +61,7 @@ module _ (st : State) (R : Ready st) (print : Outcome → List ℕ) (call : Call
       ap (λ (h : Head). stateOf h elems shared) (t .head) ∙ ap (λ (u : Outcome). u .state) e ∙ state-alike in
       record {
         same = s;
-        ready = rw s (kept st R lends call);
+        ready = rw s (kept st R lends call plain);
         put = put-same (ap (λ (u : Said). textOf print u []) (ap (λ (u : Outcome). u .said) e ∙ said-alike) ∙ sym (blind (step st lends call))) (t .put);
         within = omega (arith, t .within);
       }
@@ -129,7 +130,7 @@ listed st R k head elems shared keys written said n e p m =
     let s : stateOf head elems shared ≡ step st lends (list k) .state = ap (λ (u : Outcome). u .state) e ∙ a .state in
     record {
       same = s;
-      ready = rw s (kept st R lends (list k));
+      ready = rw s (kept st R lends (list k) tt);
       put = put-same (ap (printed ringText) e ∙ a .text) p;
       within = m;
     }

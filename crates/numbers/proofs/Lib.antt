@@ -1,3 +1,3 @@
 pub mod Told
-pub mod Nine
+pub mod Thirteen
 pub mod NumberRows

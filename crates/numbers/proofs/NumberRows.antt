@@ -6,11 +6,11 @@ use mathlib.Core.List.{List, [], _∷_, map}
 use Rattle.rules.specs.declared.Head.{Head}
 use Rattle.rules.specs.Refusals.{Said}
 use Rattle.numbers.specs.Numbers.{headOf, values, valuesOver, removalNumbers, resultOf, Answered}
-use Rattle.numbers.proofs.Nine.{nineOf}
+use Rattle.numbers.proofs.Thirteen.{thirteenOf}
 
 -- the lent head (docs/LAYOUT.md)
 abbrev lent : List ℕ
-lent = 11 ∷ 12 ∷ 13 ∷ 14 ∷ 15 ∷ 16 ∷ 17 ∷ 18 ∷ 19 ∷ []
+lent = 11 ∷ 12 ∷ 13 ∷ 14 ∷ 15 ∷ 16 ∷ 17 ∷ 18 ∷ 19 ∷ 20 ∷ 21 ∷ 22 ∷ 23 ∷ []
 
 abbrev taken : Head
 taken =
@@ -18,14 +18,15 @@ taken =
       elems = record { capacity = 11; extent = 12; root = 13; live = 14 };
       shared = record { capacity = 15; extent = 16; root = 17; live = 18 };
       generation = 19;
+      undo = record { kept = 20; gone = 21; moved = 22; value = 23 };
     }
 
 head : headOf lent ≡ taken
 unfolding headOf
 head = refl
 
-nine : nineOf taken ≡ lent
-nine = refl
+thirteen : thirteenOf taken ≡ lent
+thirteen = refl
 
 -- what is said, and the numbers in `out`
 abbrev said : (number : ℕ) → List ℕ → Bool → Said
@@ -63,6 +64,6 @@ refused : Answered removalNumbers (said 4 (41 ∷ 42 ∷ []) true) (51 ∷ 52 �
 refused = record { number = refl; out = refl }
 
 -- Ticket 5: the result, with the cause of 3 above its low eight bits
-results : map resultOf (said 0 (1 ∷ []) true ∷ said 2 [] false ∷ said 3 (1 ∷ []) false ∷ said 3 (2 ∷ []) false ∷ said 3 (3 ∷ []) false ∷ said 3 (1 ∷ 9 ∷ []) true ∷ said 4 [] false ∷ said 12 [] false ∷ [])
-    ≡ 0 ∷ 2 ∷ 259 ∷ 515 ∷ 771 ∷ 259 ∷ 4 ∷ 12 ∷ []
+results : map resultOf (said 0 (1 ∷ []) true ∷ said 2 [] false ∷ said 3 (1 ∷ []) false ∷ said 3 (2 ∷ []) false ∷ said 3 (3 ∷ []) false ∷ said 3 (1 ∷ 9 ∷ []) true ∷ said 4 [] false ∷ said 10 [] false ∷ said 12 [] false ∷ [])
+    ≡ 0 ∷ 2 ∷ 259 ∷ 515 ∷ 771 ∷ 259 ∷ 4 ∷ 10 ∷ 12 ∷ []
 results = refl

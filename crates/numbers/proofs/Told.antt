@@ -10,7 +10,7 @@ use lib.ListN.{getD}
 use Rattle.rules.specs.Notation.{if_then_else_, _==_}
 use Rattle.rules.specs.declared.Cause.the-variants.{NoSlot, FreeSlot, OtherGeneration}
 use Rattle.rules.specs.declared.Refusal.{Refusal}
-use Rattle.rules.specs.declared.Refusal.the-variants.{Shape, Unsound, Dead, SameClass, NoElement, NoShared, Short, Malformed, Sealed}
+use Rattle.rules.specs.declared.Refusal.the-variants.{Shape, Unsound, Dead, SameClass, NoElement, NoShared, Short, Malformed, Nothing, Sealed}
 use Rattle.rules.specs.Refusals.{numberOf, valuesOf, Said, saidRefused, saidAccepted}
 use Rattle.rules.specs.Calls.{Is}
 use Rattle.rules.specs.Answers.{saidBeside}
@@ -27,6 +27,7 @@ kept NoElement a b = refl
 kept NoShared a b = refl
 kept Short a b = refl
 kept Malformed a b = refl
+kept Nothing a b = refl
 kept Sealed a b = refl
 
 -- its result is what it is with nothing beside
@@ -39,6 +40,7 @@ alike NoElement values over = refl
 alike NoShared values over = refl
 alike Short values over = refl
 alike Malformed values over = refl
+alike Nothing values over = refl
 alike Sealed values over = refl
 
 pub refused : (numbers : Said → List ℕ) (said : Said) (r : Refusal) (values : List ℕ) (over : Bool) (out : List ℕ) (n : ℕ) → said ≡ saidBeside r values over → n ≡ resultOf (saidRefused r) → Answered numbers said out n out
@@ -54,6 +56,7 @@ composed NoElement = refl
 composed NoShared = refl
 composed Short = refl
 composed Malformed = refl
+composed Nothing = refl
 composed Sealed = refl
 
 pub few : (r : Refusal) → (numberOf r ≤ 12) × (getD (valuesOf r []) 0 0 ≤ 3)
@@ -67,6 +70,7 @@ few NoElement = (lit≤ tt, lit≤ tt)
 few NoShared = (lit≤ tt, lit≤ tt)
 few Short = (lit≤ tt, lit≤ tt)
 few Malformed = (lit≤ tt, lit≤ tt)
+few Nothing = (lit≤ tt, lit≤ tt)
 few Sealed = (lit≤ tt, lit≤ tt)
 
 -- from which both are read back: the low eight bits, and what stands above
@@ -81,6 +85,7 @@ number-back NoElement = refl
 number-back NoShared = refl
 number-back Short = refl
 number-back Malformed = refl
+number-back Nothing = refl
 number-back Sealed = refl
 
 pub cause-back : (r : Refusal) → resultOf (saidRefused r) / 256 ≡ getD (valuesOf r []) 0 0
@@ -94,6 +99,7 @@ cause-back NoElement = refl
 cause-back NoShared = refl
 cause-back Short = refl
 cause-back Malformed = refl
+cause-back Nothing = refl
 cause-back Sealed = refl
 
 -- the result is 0, 1 or 2 exactly when the number is

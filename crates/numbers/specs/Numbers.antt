@@ -8,13 +8,14 @@ use Rattle.rules.specs.declared.Head.{Head}
 use Rattle.rules.specs.Notation.{if_then_else_, _==_}
 use Rattle.rules.specs.Refusals.{Said}
 
--- the nine numbers of a lent head
+-- the thirteen numbers of a lent head
 unfoldable pub headOf : List ℕ → Head
 headOf h =
     record {
       elems = record { capacity = getD h 0 0; extent = getD h 1 0; root = getD h 2 0; live = getD h 3 0 };
       shared = record { capacity = getD h 4 0; extent = getD h 5 0; root = getD h 6 0; live = getD h 7 0 };
       generation = getD h 8 0;
+      undo = record { kept = getD h 9 0; gone = getD h 10 0; moved = getD h 11 0; value = getD h 12 0 };
     }
 
 -- the numbers of an answer: its values; those and the overflow mark; a removal's payload, whether it was the last, the shared value, overflow

@@ -8,7 +8,7 @@ use lib.ListN.{length, drop}
 use Rattle.rules.specs.declared.Head.{Head}
 use Rattle.rules.specs.declared.Refusal.the-variants.{Short}
 use Rattle.rules.specs.Notation.{if_then_else_, _==_, _<?_, flat}
-use Rattle.rules.specs.Tables.{lastGeneration, State, stateOf, elemSide, sharedSide}
+use Rattle.rules.specs.Tables.{blank, lastGeneration, State, stateOf, elemSide, sharedSide}
 use Rattle.rules.specs.Refusals.{saidRefused, saidAccepted}
 use Rattle.rules.specs.Answers.{leaves}
 use Rattle.rules.specs.Slots.{overflows}
@@ -46,13 +46,13 @@ module _ (st : State) (lent : List ℕ) (reset : Bool) where
   unfolding rule.compressWith overflows
   with-done h g e = rw (e, is-false (length lent <? need) (le-is (suc (length lent)) need) (λ l. omega arith))
 
-  head-is : (g : ℕ) (h : Head) → h ≡ record { elems = packed (st .head .elems); shared = packed (st .head .shared); generation = g } → h ≡ to g .head
+  head-is : (g : ℕ) (h : Head) → h ≡ record { elems = packed (st .head .elems); shared = packed (st .head .shared); generation = g; undo = blank } → h ≡ to g .head
   unfolding renumberedIn
   head-is g h q = q
 
   pub with-is : Ready st → st .head .elems .live * pairWidth ≤ length lent → (g : ℕ) → g ≡ generationAfter reset (st .head .generation) → (e s out : List ℕ) → Told (st .elems) lent g (st .head .elems .extent) out
       → stateOf (st .head) e s ≡ stateOf (st .head) (to g .elems) (to g .shared)
-      → (h : Head) → h ≡ record { elems = packed (st .head .elems); shared = packed (st .head .shared); generation = g } → (over : Bool) → over ≡ (not reset && (st .head .generation == lastGeneration))
+      → (h : Head) → h ≡ record { elems = packed (st .head .elems); shared = packed (st .head .shared); generation = g; undo = blank } → (over : Bool) → over ≡ (not reset && (st .head .generation == lastGeneration))
       → leaves h e s out (saidAccepted (st .head .elems .live ∷ []) over) ≡ step st lent (compressWith reset)
   with-is R room g same e s out T S h q over o =
       (λ i. leaves (head-is g h q i) (S i .elems) (S i .shared) (pairs-final st R g lent out room T i) (saidAccepted (st .head .elems .live ∷ []) (o i)))

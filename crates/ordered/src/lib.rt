@@ -7,6 +7,7 @@ use ranks::rank;
 use ranks::rename;
 use ranks::settle;
 use ranks::tell;
+use rules::BLANK;
 use rules::COUNT;
 use rules::FRAME;
 use rules::GENERATION;
@@ -67,6 +68,7 @@ pub fn compress_with(
             elems: frames,
             shared: headers,
             generation,
+            undo: BLANK,
         },
         answer: Number::Is(live),
         over: next.over,

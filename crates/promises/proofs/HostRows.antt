@@ -6,7 +6,7 @@ use mathlib.Core.List.{List, [], _∷_, map}
 use lib.ListN.{replicate}
 use Rattle.rules.specs.declared.Head.{Head}
 use Rattle.rules.specs.Refusals.{Said, Outcome}
-use Rattle.rules.specs.Calls.{Call, lenSurject, inSameSurject, getElement, getShared, getSize, getTotal, lookup, setElement, setShared, check, newRun, insert, union, remove, removeShared, list, drain, drainAll, clear, exchange, compress}
+use Rattle.rules.specs.Calls.{Call, lenSurject, inSameSurject, getElement, getShared, getSize, getTotal, lookup, setElement, setShared, check, newRun, insert, union, remove, removeShared, list, drain, drainAll, clear, undo, exchange, compress}
 use Rattle.rules.proofs.Cases.{key, pool}
 use Rattle.numbers.specs.Numbers.{headOf, values, valuesOver, removalNumbers}
 use Rattle.promises.specs.Host.{keyOf, keysOf, isSet, Left, left, shown}
@@ -26,17 +26,17 @@ truths = refl
 
 -- what an entry leaves: each of its parts is its own
 abbrev lent : List ℕ
-lent = 11 ∷ 12 ∷ 13 ∷ 14 ∷ 15 ∷ 16 ∷ 17 ∷ 18 ∷ 19 ∷ []
+lent = 11 ∷ 12 ∷ 13 ∷ 14 ∷ 15 ∷ 16 ∷ 17 ∷ 18 ∷ 19 ∷ 71 ∷ 72 ∷ 73 ∷ 74 ∷ []
 
 abbrev taken : Head
-taken = record { elems = pool 11 12 13 14; shared = pool 15 16 17 18; generation = 19 }
+taken = record { elems = pool 11 12 13 14; shared = pool 15 16 17 18; generation = 19; undo = record { kept = 71; gone = 72; moved = 73; value = 74 } }
 
 abbrev leaving : Left
 leaving = record { number = 4; state = record { head = taken; elems = 21 ∷ 22 ∷ []; shared = 31 ∷ 32 ∷ [] }; lent = 41 ∷ 42 ∷ []; out = 51 ∷ 52 ∷ [] }
 
-leaves-nine : left 4 lent (21 ∷ 22 ∷ []) (31 ∷ 32 ∷ []) (41 ∷ 42 ∷ []) (51 ∷ 52 ∷ []) ≡ leaving
+leaves-thirteen : left 4 lent (21 ∷ 22 ∷ []) (31 ∷ 32 ∷ []) (41 ∷ 42 ∷ []) (51 ∷ 52 ∷ []) ≡ leaving
 unfolding headOf
-leaves-nine = refl
+leaves-thirteen = refl
 
 leaves-in-place : leftAt 4 taken (21 ∷ 22 ∷ []) (31 ∷ 32 ∷ []) (51 ∷ 52 ∷ []) ≡ record { number = 4; state = leaving .state; lent = []; out = 51 ∷ 52 ∷ [] }
 leaves-in-place = refl
@@ -78,8 +78,8 @@ tells-over = refl
 
 abbrev plain : List Call
 plain =
-    newRun 1 2 0 ∷ insert (key 5 7) 1 0 ∷ union (key 5 7) (key 6 8) ∷ drain (key 5 7) ∷ drainAll ∷ list (key 5 7) ∷ lenSurject (key 5 7) ∷ inSameSurject (key 5 7) (key 6 8) ∷
+    newRun 1 2 0 ∷ insert (key 5 7) 1 0 ∷ union (key 5 7) (key 6 8) ∷ undo ∷ drain (key 5 7) ∷ drainAll ∷ list (key 5 7) ∷ lenSurject (key 5 7) ∷ inSameSurject (key 5 7) (key 6 8) ∷
     getElement (key 5 7) ∷ getShared (key 5 7) ∷ getSize (key 5 7) ∷ getTotal (key 5 7) ∷ lookup (key 5 7) ∷ setElement (key 5 7) 1 ∷ setShared (key 5 7) 2 ∷ exchange [] [] ∷ check ∷ []
 
-tells-values : told plain ≡ replicate 17 (61 ∷ 62 ∷ [])
+tells-values : told plain ≡ replicate 18 (61 ∷ 62 ∷ [])
 tells-values = refl

@@ -7,7 +7,7 @@ use Rattle.rules.specs.declared.Head.{Head}
 use Rattle.rules.specs.Refusals.{Said}
 use Rattle.rules.specs.Calls.{Call}
 use Rattle.rules.proofs.Door
-use Rattle.numbers.proofs.Nine.{only-nine}
+use Rattle.numbers.proofs.Thirteen.{only-thirteen}
 use Rattle.promises.specs.Host.{Left, left, shown, AtHost, AtFresh}
 use Rattle.promises.specs.InPlace.{leftAt, AtHead}
 
@@ -31,36 +31,36 @@ told a b q = record {
   out = ap (λ (t : Left). t .out) q;
 }
 
--- and each of the nine numbers of a head
-told-nine : (r r′ : ℕ) (h h′ e e′ s s′ l l′ o o′ : List ℕ) → length h ≡ 9 → length h′ ≡ 9 → left r h e s l o ≡ left r′ h′ e′ s′ l′ o′ → Same r r′ h h′ e e′ s s′ l l′ o o′
-told-nine r r′ h h′ e e′ s s′ l l′ o o′ n n′ q =
+-- and each of the thirteen numbers of a head
+told-thirteen : (r r′ : ℕ) (h h′ e e′ s s′ l l′ o o′ : List ℕ) → length h ≡ 13 → length h′ ≡ 13 → left r h e s l o ≡ left r′ h′ e′ s′ l′ o′ → Same r r′ h h′ e e′ s s′ l l′ o o′
+told-thirteen r r′ h h′ e e′ s s′ l l′ o o′ n n′ q =
     let t = told (left r h e s l o) (left r′ h′ e′ s′ l′ o′) q in
     record {
       result = t .result;
-      head = only-nine h h′ n n′ (t .head);
+      head = only-thirteen h h′ n n′ (t .head);
       elems = t .elems;
       shared = t .shared;
       lent = t .lent;
       out = t .out;
     }
 
--- an entry over a head of nine numbers
+-- an entry over a head of thirteen numbers
 module _ (c : Call) (numbers : Said → List ℕ) (head elems shared lent out : List ℕ) where
   pub only : (a b : Left) → AtHost c numbers head elems shared lent out a → AtHost c numbers head elems shared lent out b → a ≡ b
   only a b p q = p .same ∙ ap (shown numbers out) (Door.only _ lent c (p .outcome) (q .outcome) (p .door) (q .door)) ∙ sym (q .same)
 
-  pub only-at-host : (r r′ : ℕ) (h h′ e e′ s s′ l l′ o o′ : List ℕ) → length h ≡ 9 → length h′ ≡ 9
+  pub only-at-host : (r r′ : ℕ) (h h′ e e′ s s′ l l′ o o′ : List ℕ) → length h ≡ 13 → length h′ ≡ 13
       → AtHost c numbers head elems shared lent out (left r h e s l o)
       → AtHost c numbers head elems shared lent out (left r′ h′ e′ s′ l′ o′)
       → Same r r′ h h′ e e′ s s′ l l′ o o′
-  only-at-host r r′ h h′ e e′ s s′ l l′ o o′ n n′ p q = told-nine r r′ h h′ e e′ s s′ l l′ o o′ n n′ (only _ _ p q)
+  only-at-host r r′ h h′ e e′ s s′ l l′ o o′ n n′ p q = told-thirteen r r′ h h′ e e′ s s′ l l′ o o′ n n′ (only _ _ p q)
 
 -- fresh, which has no buffer and no `out`
-pub only-at-fresh : (elemCapacity sharedCapacity : ℕ) (head elems shared : List ℕ) (r r′ : ℕ) (h h′ e e′ s s′ l l′ o o′ : List ℕ) → length h ≡ 9 → length h′ ≡ 9
+pub only-at-fresh : (elemCapacity sharedCapacity : ℕ) (head elems shared : List ℕ) (r r′ : ℕ) (h h′ e e′ s s′ l l′ o o′ : List ℕ) → length h ≡ 13 → length h′ ≡ 13
     → AtFresh elemCapacity sharedCapacity head elems shared (left r h e s l o)
     → AtFresh elemCapacity sharedCapacity head elems shared (left r′ h′ e′ s′ l′ o′)
     → Same r r′ h h′ e e′ s s′ l l′ o o′
-only-at-fresh elemCapacity sharedCapacity head elems shared r r′ h h′ e e′ s s′ l l′ o o′ n n′ p q = told-nine r r′ h h′ e e′ s s′ l l′ o o′ n n′ (p .same ∙ sym (q .same))
+only-at-fresh elemCapacity sharedCapacity head elems shared r r′ h h′ e e′ s s′ l l′ o o′ n n′ p q = told-thirteen r r′ h h′ e e′ s s′ l l′ o o′ n n′ (p .same ∙ sym (q .same))
 
 -- an entry over a head lent in place, which has no buffer
 pub only-at-head : (c : Call) (numbers : Said → List ℕ) (head : Head) (elems shared out : List ℕ) (r r′ : ℕ) (h h′ : Head) (e e′ s s′ o o′ : List ℕ)

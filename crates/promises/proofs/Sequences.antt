@@ -14,14 +14,14 @@ use Rattle.rules.specs.Refusals.{Ruling, Said, Outcome, outcome}
 use Rattle.rules.specs.Slots
 use Rattle.rules.specs.Slots.{isFull}
 use Rattle.rules.specs.Runs
-use Rattle.rules.specs.Calls.{Call, lenSurject, inSameSurject, getElement, getShared, getSize, getTotal, lookup, setElement, setShared, check, newRun, insert, union, remove, removeShared, list, drain, seal, drainAll, clear, exchange, compress, compressWith, step, freshStep, AtDoor}
+use Rattle.rules.specs.Calls.{Call, lenSurject, inSameSurject, getElement, getShared, getSize, getTotal, lookup, setElement, setShared, check, newRun, insert, union, remove, removeShared, list, drain, seal, drainAll, clear, undo, exchange, compress, compressWith, step, freshStep, AtDoor}
 use Rattle.rules.specs.History.{History, accepted, noted, notedFresh, nothing}
 use Rattle.rules.specs.Demand.{After, start, fresh, call, Union}
 use Rattle.rules.proofs.laws.Rulings.{by-test, by-key}
 use Rattle.rules.proofs.laws.DemandThree
 use Rattle.numbers.specs.Numbers.{headOf, values, resultOf}
 use Rattle.numbers.proofs.Told.{zero-result, small}
-use Rattle.numbers.proofs.Nine.{nineOf, head-of-nine}
+use Rattle.numbers.proofs.Thirteen.{thirteenOf, head-of-thirteen}
 use Rattle.promises.specs.Host.{Left, left, shown, AtHost}
 use Rattle.promises.specs.InPlace.{leftAt, AtHead}
 use Rattle.promises.specs.Sequence.{numbersOf, heard, lentState, AfterEntries, begun, freshened, called, calledInPlace, Demand3AtHost}
@@ -37,6 +37,7 @@ accepted-heard h (drain k) said = refl
 accepted-heard h (seal k) said = refl
 accepted-heard h drainAll said = refl
 accepted-heard h clear said = refl
+accepted-heard h undo said = refl
 accepted-heard h (compress reset) said = refl
 accepted-heard h (compressWith reset) said = refl
 accepted-heard h (lenSurject k) said = refl
@@ -88,30 +89,30 @@ after-entries (calledInPlace {h = h} a c out r head′ elems′ shared′ out′
 -- a first fresh over any head and tables that fit begins one
 pub begins : (elemCapacity sharedCapacity : ℕ) (head elems shared : List ℕ) → bothFit (lentState head elems shared) elemCapacity sharedCapacity ≡ true
     → let st = Slots.empty elemCapacity sharedCapacity 1 in
-    AfterEntries (nineOf (st .head)) (st .elems) (st .shared) nothing
+    AfterEntries (thirteenOf (st .head)) (st .elems) (st .shared) nothing
 unfolding Slots.fresh
 begins elemCapacity sharedCapacity head elems shared e =
     let st = Slots.empty elemCapacity sharedCapacity 1 in
-    begun elemCapacity sharedCapacity head elems shared (nineOf (st .head)) (st .elems) (st .shared) (record { same = rw (e, head-of-nine) })
+    begun elemCapacity sharedCapacity head elems shared (thirteenOf (st .head)) (st .elems) (st .shared) (record { same = rw (e, head-of-thirteen) })
 
 -- and any call can be the next one: its entry leaves what the call's own rule says
 module _ {head elems shared : List ℕ} {h : History} (a : AfterEntries head elems shared h) (c : Call) where
   pub goes-on : (lent out : List ℕ) → let l = shown (numbersOf c) out (step (lentState head elems shared) lent c) in
-      AtHost c (numbersOf c) head elems shared lent out (left (l .number) (nineOf (l .state .head)) (l .state .elems) (l .state .shared) (l .lent) (l .out))
+      AtHost c (numbersOf c) head elems shared lent out (left (l .number) (thirteenOf (l .state .head)) (l .state .elems) (l .state .shared) (l .lent) (l .out))
   goes-on lent out = record {
     outcome = step (lentState head elems shared) lent c;
     door = DemandThree.goes-on (after-entries a) lent c;
-    same = rw head-of-nine;
+    same = rw head-of-thirteen;
   }
 
   pub goes-on-in-place : (out : List ℕ) → step (lentState head elems shared) [] c .lent ≡ [] → let l = shown (numbersOf c) out (step (lentState head elems shared) [] c) in
-      AtHead c (numbersOf c) (headOf head) elems shared out (leftAt (l .number) (headOf (nineOf (l .state .head))) (l .state .elems) (l .state .shared) (l .out))
+      AtHead c (numbersOf c) (headOf head) elems shared out (leftAt (l .number) (headOf (thirteenOf (l .state .head))) (l .state .elems) (l .state .shared) (l .out))
   goes-on-in-place out e = record {
     outcome = step (lentState head elems shared) [] c;
     door = DemandThree.goes-on (after-entries a) [] c;
     same =
         let l = shown (numbersOf c) out (step (lentState head elems shared) [] c) in
-        rw head-of-nine (λ i. record { number = l .number; state = l .state; lent = sym e i; out = l .out });
+        rw head-of-thirteen (λ i. record { number = l .number; state = l .state; lent = sym e i; out = l .out });
   }
 
 -- the two calls that have such an entry write to no buffer

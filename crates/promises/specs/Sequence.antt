@@ -6,7 +6,7 @@ use mathlib.Core.List.{List, []}
 use Rattle.rules.specs.declared.Key.{Key}
 use Rattle.rules.specs.Tables.{State, stateOf}
 use Rattle.rules.specs.Refusals.{Said}
-use Rattle.rules.specs.Calls.{Call, lenSurject, inSameSurject, getElement, getShared, getSize, getTotal, lookup, setElement, setShared, check, newRun, insert, union, remove, removeShared, list, drain, seal, drainAll, clear, exchange, compress, compressWith}
+use Rattle.rules.specs.Calls.{Call, lenSurject, inSameSurject, getElement, getShared, getSize, getTotal, lookup, setElement, setShared, check, newRun, insert, union, remove, removeShared, list, drain, seal, drainAll, clear, undo, exchange, compress, compressWith}
 use Rattle.rules.specs.History.{History, noted, notedFresh, nothing}
 use Rattle.rules.specs.Demand.{Agrees, Union}
 use Rattle.numbers.specs.Numbers.{headOf, values, valuesOver, removalNumbers}
@@ -23,6 +23,7 @@ numbersOf (compressWith reset) = valuesOver
 numbersOf (newRun payload value size) = values
 numbersOf (insert k payload size) = values
 numbersOf (union j k) = values
+numbersOf undo = values
 numbersOf (drain k) = values
 numbersOf (seal k) = values
 numbersOf drainAll = values
@@ -48,7 +49,7 @@ abbrev pub lentState : (head elems shared : List ℕ) → State
 lentState head elems shared = stateOf (headOf head) elems shared
 
 -- Start from tables that fresh accepts, whatever they held, and hand head and tables on unaltered from entry to entry, refused ones included.
--- The history is noted from the calls and what the host is told, and from nothing else. A head lent in place is the one that its nine numbers are.
+-- The history is noted from the calls and what the host is told, and from nothing else. A head lent in place is the one that its thirteen numbers are.
 pub data AfterEntries : (head elems shared : List ℕ) → History → Type 0 where
   begun : (elemCapacity sharedCapacity : ℕ) (head elems shared head′ elems′ shared′ : List ℕ)
       → AtFresh elemCapacity sharedCapacity head elems shared (left 0 head′ elems′ shared′ [] [])

@@ -5,6 +5,7 @@ use keyed::is_list;
 use keyed::key;
 use rules::Done;
 use rules::Head;
+use rules::HeadNumber;
 use rules::Key;
 use sample::REFUSED;
 use sample::is_answer;
@@ -34,8 +35,7 @@ pub fn make(
         return frames::make(head, elems, shared, given, record);
     }
     if 6 <= kind && kind <= 8 {
-        let same = set(head, elems, shared, given, record);
-        return Next { head, same };
+        return set(head, elems, shared, given, record);
     }
     let same = read(head, elems, shared, given, record);
     Next { head, same }
@@ -84,17 +84,24 @@ fn set(
     shared: &mut [u64],
     given: &[u64; 512],
     record: &[u8; 32],
-) -> bool {
+) -> Next {
     let k = key(given, record[1]);
     let new = number(record[5]);
     let kind = record[0];
     if kind == 6 {
-        return is_number(door::set(head, elems, shared, k, new), record);
+        return told(door::set(head, elems, shared, k, new), record);
     }
     if kind == 7 {
-        return is_number(door::set_shared(head, elems, shared, k, new), record);
+        return told(door::set_shared(head, elems, shared, k, new), record);
     }
     exchange(head, elems, shared, given, record)
+}
+
+fn told(step: HeadNumber, record: &[u8; 32]) -> Next {
+    let answer = step.answer;
+    let after = step.head;
+    let same = is_number(answer, record);
+    Next { head: after, same }
 }
 
 fn four_keys(given: &[u64; 512], record: &[u8; 32]) -> [Key; 4] {
@@ -134,10 +141,13 @@ fn exchange(
     shared: &mut [u64],
     given: &[u64; 512],
     record: &[u8; 32],
-) -> bool {
+) -> Next {
     let keys = four_keys(given, record);
-    let said = door::exchange_disjoint_shared(head, elems, shared, keys, four_values(record));
+    let step = door::exchange_disjoint_shared(head, elems, shared, keys, four_values(record));
+    let after = step.head;
+    let said = step.answer;
     let answer = said.answer;
     let old = said.old;
-    are_old(answer, old, record)
+    let same = are_old(answer, old, record);
+    Next { head: after, same }
 }

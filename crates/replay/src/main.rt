@@ -9,7 +9,7 @@ use heads::unpack;
 
 // Replays the next record, and answers whether to go on.
 fn replay_one(
-    head: &mut [u64; 9],
+    head: &mut [u64; 13],
     elems: &mut [u64; 96],
     shared: &mut [u64; 80],
     given: &mut [u64; 512],
@@ -42,7 +42,7 @@ fn tell(made: u64) {
 }
 
 fn main() {
-    let mut head = [0u64; 9];
+    let mut head = [0u64; 13];
     let mut elems = [0u64; 96];
     let mut shared = [0u64; 80];
     let mut given = [0u64; 512];

@@ -8,23 +8,28 @@ use mathlib.Core.List.{List, [], _∷_, _++_, map}
 use lib.Dec.{lit<}
 use lib.ListN.{replicate}
 use Rattle.rules.specs.declared.Key.{Key}
+use Rattle.rules.specs.declared.Memory.{Memory}
 use Rattle.rules.specs.declared.Found.{Found}
 use Rattle.rules.specs.declared.Found.the-variants as lookup
 use Rattle.rules.specs.declared.Cause.the-variants.{NoSlot, FreeSlot, OtherGeneration}
-use Rattle.rules.specs.declared.Refusal.the-variants.{Shape, Unsound, Dead, SameClass, NoElement, NoShared, Short, Malformed, Sealed}
+use Rattle.rules.specs.declared.Refusal.the-variants.{Shape, Unsound, Dead, SameClass, NoElement, NoShared, Short, Malformed, Nothing, Sealed}
 use Rattle.rules.specs.Tables.{State}
 use Rattle.rules.specs.Refusals.{numberOf, causeNumber, valuesOf}
-use Rattle.rules.specs.Calls.{Call, lenSurject, inSameSurject, getElement, getShared, getSize, getTotal, lookup, setElement, setShared, check, newRun, insert, union, remove, removeShared, list, drain, seal, drainAll, clear, exchange, compress, compressWith}
+use Rattle.rules.specs.Calls.{Call, lenSurject, inSameSurject, getElement, getShared, getSize, getTotal, lookup, setElement, setShared, check, newRun, insert, union, remove, removeShared, list, drain, seal, drainAll, clear, undo, exchange, compress, compressWith}
 use Rattle.rules.specs.Exact.{Asks, asks, Why, sooner, Because, Sentence, earlier, Given, Accepted}
 use Rattle.rules.proofs.Cases.{rules, key, pool, at, e, s, m}
-use Rattle.rules.proofs.Worked.{three, four, goesOn, single}
+use Rattle.rules.proofs.Worked.{three, four, joined, goesOn, single}
 use Rattle.rules.proofs.CasesDead.{holed}
 use Rattle.rules.proofs.Apart.{none}
 use Rattle.rules.proofs.Sounds.{trap, trap-unsound, three-sound}
 
 -- keys, whether two may not be in one class, whether none may be sealed, whether a shared slot and an element slot are needed, and how many numbers lent
 abbrev want : List Key → (apart unsealed shared element : Bool) → (numbers : ℕ) → Asks
-want keys apart unsealed shared element numbers = record { keys = keys; apart = apart; unsealed = unsealed; shared = shared; element = element; numbers = numbers }
+want keys apart unsealed shared element numbers = record { back = false; keys = keys; apart = apart; unsealed = unsealed; shared = shared; element = element; numbers = numbers }
+
+-- a union to take back
+abbrev wantBack : Asks
+wantBack = record { back = true; keys = []; apart = false; unsealed = false; shared = false; element = false; numbers = 0 }
 
 abbrev a : Key
 a = key 2 1
@@ -32,7 +37,7 @@ a = key 2 1
 abbrev b : Key
 b = key 1 1
 
-pub asked : map (asks goesOn) (lenSurject a ∷ inSameSurject a b ∷ getElement a ∷ getShared a ∷ getSize a ∷ getTotal a ∷ lookup a ∷ setElement a 9 ∷ setShared a 9 ∷ check ∷ newRun 9 9 0 ∷ insert a 9 0 ∷ union a b ∷ remove a ∷ removeShared a ∷ list a ∷ drain a ∷ seal a ∷ clear ∷ exchange (a ∷ b ∷ []) (9 ∷ 9 ∷ []) ∷ drainAll ∷ [])
+pub asked : map (asks goesOn) (lenSurject a ∷ inSameSurject a b ∷ getElement a ∷ getShared a ∷ getSize a ∷ getTotal a ∷ lookup a ∷ setElement a 9 ∷ setShared a 9 ∷ check ∷ newRun 9 9 0 ∷ insert a 9 0 ∷ union a b ∷ remove a ∷ removeShared a ∷ list a ∷ drain a ∷ seal a ∷ clear ∷ undo ∷ exchange (a ∷ b ∷ []) (9 ∷ 9 ∷ []) ∷ drainAll ∷ [])
     ++ map (asks single) (compress true ∷ compressWith true ∷ [])
     ≡ want (a ∷ []) false false false false 0
     ∷ want (a ∷ b ∷ []) false false false false 0
@@ -53,6 +58,7 @@ pub asked : map (asks goesOn) (lenSurject a ∷ inSameSurject a b ∷ getElement
     ∷ want (a ∷ []) false false false false 18
     ∷ want (a ∷ []) false true false false 9
     ∷ want [] false false false false 0
+    ∷ wantBack
     ∷ want (a ∷ b ∷ []) true false false false 0
     ∷ want [] false false false false 18
     ∷ want [] false false false false 24
@@ -68,15 +74,16 @@ n number = number ∷ []
 abbrev d : ℕ → List ℕ
 d cause = 3 ∷ cause ∷ []
 
-pub order : map (λ r. map (λ q. numberOf q ∷ valuesOf q []) (earlier r)) (Shape ∷ Unsound ∷ Dead FreeSlot ∷ SameClass ∷ Sealed ∷ NoShared ∷ NoElement ∷ Short ∷ Malformed ∷ [])
+pub order : map (λ r. map (λ q. numberOf q ∷ valuesOf q []) (earlier r)) (Shape ∷ Unsound ∷ Nothing ∷ Dead FreeSlot ∷ SameClass ∷ Sealed ∷ NoShared ∷ NoElement ∷ Short ∷ Malformed ∷ [])
     ≡ []
     ∷ (n 1 ∷ [])
     ∷ (n 1 ∷ n 2 ∷ [])
-    ∷ (n 1 ∷ n 2 ∷ d 1 ∷ d 2 ∷ d 3 ∷ [])
-    ∷ (n 1 ∷ n 2 ∷ d 1 ∷ d 2 ∷ d 3 ∷ n 4 ∷ [])
-    ∷ (n 1 ∷ n 2 ∷ d 1 ∷ d 2 ∷ d 3 ∷ n 4 ∷ n 12 ∷ [])
-    ∷ (n 1 ∷ n 2 ∷ d 1 ∷ d 2 ∷ d 3 ∷ n 4 ∷ n 12 ∷ n 6 ∷ [])
-    ∷ (n 1 ∷ n 2 ∷ d 1 ∷ d 2 ∷ d 3 ∷ n 4 ∷ n 12 ∷ n 6 ∷ n 5 ∷ [])
+    ∷ (n 1 ∷ n 2 ∷ n 10 ∷ [])
+    ∷ (n 1 ∷ n 2 ∷ n 10 ∷ d 1 ∷ d 2 ∷ d 3 ∷ [])
+    ∷ (n 1 ∷ n 2 ∷ n 10 ∷ d 1 ∷ d 2 ∷ d 3 ∷ n 4 ∷ [])
+    ∷ (n 1 ∷ n 2 ∷ n 10 ∷ d 1 ∷ d 2 ∷ d 3 ∷ n 4 ∷ n 12 ∷ [])
+    ∷ (n 1 ∷ n 2 ∷ n 10 ∷ d 1 ∷ d 2 ∷ d 3 ∷ n 4 ∷ n 12 ∷ n 6 ∷ [])
+    ∷ (n 1 ∷ n 2 ∷ n 10 ∷ d 1 ∷ d 2 ∷ d 3 ∷ n 4 ∷ n 12 ∷ n 6 ∷ n 5 ∷ [])
     ∷ []
     ∷ []
 order = refl
@@ -120,7 +127,7 @@ unfolding rules
 shape = (refl, true≢false)
 
 pub unsound : Sentence trap [] nothing Unsound × (Sentence three [] nothing Unsound → ⊥)
-unsound = (trap-unsound, λ n. n three-sound)
+unsound = ((λ w. trap-unsound (w .0)), λ n. n (three-sound, inl refl))
 
 -- why: slot 0, past the extent, free, another generation
 pub why : Why holed (key 0 5) NoSlot × Why holed (key 4 5) NoSlot × Why holed (key 2 5) FreeSlot × Why holed (key 1 6) OtherGeneration
@@ -218,6 +225,10 @@ not-needed = ((λ h. h .0), (λ h. h .0))
 pub short : Sentence three (replicate 5 0) (lent 6) Short × (Sentence three (replicate 6 0) (lent 6) Short → ⊥)
 short = (lit< tt, λ h. omega (arith, h))
 
+-- Ticket 7: nothing is remembered; and only of a call that takes back
+pub nothing-to-undo : Sentence four [] wantBack Nothing × (Sentence joined [] wantBack Nothing → ⊥) × (Sentence four [] nothing Nothing → ⊥)
+nothing-to-undo = ((tt, refl), (λ h. let z : _≡_ {A = ℕ} 1 0 = ap (λ (m : Memory). m .kept) (h .1) in omega arith), λ h. h .0)
+
 pub malformed : Sentence three [] nothing Malformed → ⊥
 malformed n = n
 
@@ -225,22 +236,22 @@ malformed n = n
 
 pub given : Given trap [] check Unsound × Given none [] check Shape
 unfolding rules
-given = ((trap-unsound, (true≢false, tt)), (refl, tt))
+given = (((λ w. trap-unsound (w .0)), (true≢false, tt)), (refl, tt))
 
 -- not its own sentence, and an earlier one
 pub not-given : (Given three [] check Unsound → ⊥) × (Given none [] (lenSurject (key 1 1)) (Dead NoSlot) → ⊥)
 unfolding rules
-not-given = ((λ g. g .0 three-sound), λ g. g .1 .0 refl)
+not-given = ((λ g. g .0 (three-sound, inl refl)), λ g. g .1 .0 refl)
 
 -- each sentence alone is in the way of acceptance
 pub not-accepted : (Accepted none [] check → ⊥) × (Accepted trap [] check → ⊥) × (Accepted three [] (lenSurject (key 4 1)) → ⊥) × (Accepted four [] (union (key 1 1) (key 3 1)) → ⊥)
 unfolding rules
-not-accepted = ((λ n. n .0 refl), (λ n. n .1 .0 trap-unsound), (λ n. n .1 .1 .0 (inl past)), (λ n. n .1 .1 .1 .1 .1 .0 (tt, inl (inl refl))))
+not-accepted = ((λ n. n .0 refl), (λ n. n .1 .0 (λ w. trap-unsound (w .0))), (λ n. n .1 .1 .1 .0 (inl past)), (λ n. n .1 .1 .1 .1 .1 .1 .0 (tt, inl (inl refl))))
 
 pub not-accepted-slots : (Accepted (room 2 2) [] (insert (key 2 1) 9 0) → ⊥) × (Accepted (room 3 2) [] (newRun 9 9 0) → ⊥) × (Accepted (room 2 2) [] (insert (key 1 1) 9 0) → ⊥) × (Accepted three (replicate 5 0) (list (key 1 1)) → ⊥)
 unfolding rules
-not-accepted-slots = ((λ n. n .1 .1 .1 .1 .1 .1 .0 (tt, inl tt)), (λ n. n .1 .1 .1 .1 .1 .1 .1 .0 (tt, (refl, refl))), (λ n. n .1 .1 .1 .1 .1 .1 .1 .1 .0 (tt, (refl, refl))), (λ n. n .1 .1 .1 .1 .1 .1 .1 .1 .1 .0 (lit< tt)))
+not-accepted-slots = ((λ n. n .1 .1 .1 .1 .1 .1 .1 .0 (tt, inl tt)), (λ n. n .1 .1 .1 .1 .1 .1 .1 .1 .0 (tt, (refl, refl))), (λ n. n .1 .1 .1 .1 .1 .1 .1 .1 .1 .0 (tt, (refl, refl))), (λ n. n .1 .1 .1 .1 .1 .1 .1 .1 .1 .1 .0 (lit< tt)))
 
 pub accepted : Accepted three [] check
 unfolding rules
-accepted = (true≢false, ((λ n. n three-sound), ((λ n. n), ((λ n. n), ((λ n. n), ((λ h. h .0), ((λ h. h .0), ((λ h. h .0), ((λ h. h .0), ((λ h. omega (arith, h)), tt))))))))))
+accepted = (true≢false, ((λ n. n (three-sound, inl refl)), ((λ h. h .0), ((λ n. n), ((λ n. n), ((λ n. n), ((λ h. h .0), ((λ h. h .0), ((λ h. h .0), ((λ h. h .0), ((λ h. omega (arith, h)), tt)))))))))))

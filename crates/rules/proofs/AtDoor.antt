@@ -1,5 +1,6 @@
 -- The host's door at worked states: tables that do not fit, the ring of P1, and the first trap; and which of them the inner door takes.
 use mathlib.Core.Path.{refl}
+use mathlib.Core.Logic.{inl}
 use mathlib.Core.Bool.{true, false, false≢true}
 use mathlib.Core.List.{[]}
 use Rattle.rules.specs.Calls.{check, Ready, AtDoor}
@@ -14,11 +15,11 @@ misshapen = record { sound = true; decided = λ h. absurd (false≢true h); same
 
 pub sound : AtDoor three [] check (ok [] three [])
 unfolding rules
-sound = record { sound = true; decided = λ _. three-sound; same = refl }
+sound = record { sound = true; decided = λ _. (three-sound, inl refl); same = refl }
 
 pub unsound : AtDoor trap [] check (refused 2 trap [])
 unfolding rules
-unsound = record { sound = false; decided = λ _. trap-unsound; same = refl }
+unsound = record { sound = false; decided = λ _ w. trap-unsound (w .0); same = refl }
 
 pub ready : Ready three
 unfolding rules

@@ -99,10 +99,10 @@ abbrev given : Key → ℕ → Given
 given k z = record { key = k; bytes = z }
 
 abbrev before : History
-before = record { runs = runs; sealed = key 4 2 ∷ []; sizes = given (key 4 2) 9 ∷ given (key 5 3) 7 ∷ given (key 2 1) 8 ∷ []; put = 5; taken = 2; generation = 7 }
+before = record { runs = runs; unjoined = []; sealed = key 4 2 ∷ []; sizes = given (key 4 2) 9 ∷ given (key 5 3) 7 ∷ given (key 2 1) 8 ∷ []; put = 5; taken = 2; generation = 7 }
 
 abbrev after : List (List Key) → List Key → List Given → (generation : ℕ) → History
-after rs ks gs g = record { runs = rs; sealed = ks; sizes = gs; put = 5; taken = 2; generation = g }
+after rs ks gs g = record { runs = rs; unjoined = []; sealed = ks; sizes = gs; put = 5; taken = 2; generation = g }
 
 pub renamed-by-slot : map (λ (reset : Bool). noted before (compressWith reset) (step (holed 7) (replicate 12 0) (compressWith reset) .said)) (false ∷ true ∷ [])
     ≡ after ((key 3 8 ∷ key 1 8 ∷ []) ∷ (key 2 8 ∷ []) ∷ []) (key 2 8 ∷ []) (given (key 2 8) 9 ∷ given (key 3 8) 7 ∷ given (key 1 8) 8 ∷ []) 8 ∷ after ((key 3 1 ∷ key 1 1 ∷ []) ∷ (key 2 1 ∷ []) ∷ []) (key 2 1 ∷ []) (given (key 2 1) 9 ∷ given (key 3 1) 7 ∷ given (key 1 1) 8 ∷ []) 1 ∷ []

@@ -13,7 +13,7 @@ use Rattle.rules.specs.Refusals.{Said, Outcome}
 use Rattle.rules.specs.Calls.{Call, lenSurject, getShared, setElement, setShared, newRun, insert, union, remove, removeShared, list, drain, seal, drainAll, clear, exchange, compress, step, freshStep}
 use Rattle.rules.specs.Answers.{saidSeal}
 use Rattle.rules.specs.History.{History, noted, notedFresh, nothing, othersOf, runsBut, insertedRuns, joinedRuns, removedRuns, sorted, begunAt, ordered, renamed}
-use Rattle.rules.proofs.Cases.{rules, Case, _gives_, did, says, key, ok, refused, dead, pool, at, e, s, m, r, zeros}
+use Rattle.rules.proofs.Cases.{rules, Case, _gives_, did, says, key, ok, refused, dead, pool, at, joinedAs, e, s, m, r, zeros}
 use Rattle.rules.proofs.Worked.{fresh43, one, three, four}
 
 -- one, three and four with the first run sealed, and four with the second
@@ -56,9 +56,9 @@ trioPut =
 
 abbrev trioJoined : State
 trioJoined =
-    at (pool 4 3 0 3) (pool 3 3 2 2) 1
+    joinedAs 1 2 1 200 (at (pool 4 3 0 3) (pool 3 3 2 2) 1
     (e 1 10 1 2 2 ++ e 1 20 1 1 1 ++ e 1 30 3 3 3 ++ zeros frameWidth 1)
-    (s 2 100 0 ++ s 0 0 0 ++ m 1 300 1)
+    (s 2 100 0 ++ s 0 0 0 ++ m 1 300 1))
 
 abbrev trioExchanged : State
 trioExchanged =
@@ -235,5 +235,5 @@ pub recalls : map (recalled fresh43 nothing) rows
 unfolding rules recalled othersOf runsBut insertedRuns joinedRuns removedRuns sorted begunAt ordered renamed
 recalls = refl
 
-pub freshened : notedFresh (record { runs = (key 1 1 ∷ []) ∷ []; sealed = key 1 1 ∷ []; sizes = record { key = key 1 1; bytes = 9 } ∷ []; put = 1; taken = 0; generation = 2 }) (ok [] fresh43 [] .said) ≡ record { runs = []; sealed = []; sizes = []; put = 1; taken = 1; generation = 1 }
+pub freshened : notedFresh (record { runs = (key 1 1 ∷ []) ∷ []; unjoined = (key 7 7 ∷ []) ∷ []; sealed = key 1 1 ∷ []; sizes = record { key = key 1 1; bytes = 9 } ∷ []; put = 1; taken = 0; generation = 2 }) (ok [] fresh43 [] .said) ≡ record { runs = []; unjoined = (key 7 7 ∷ []) ∷ []; sealed = []; sizes = []; put = 1; taken = 1; generation = 1 }
 freshened = refl

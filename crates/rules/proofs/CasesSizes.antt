@@ -10,10 +10,10 @@ use Rattle.rules.specs.declared.Key.{Key}
 use Rattle.rules.specs.Notation.{sum}
 use Rattle.rules.specs.Tables.{mostSlots, mostBytes, totalBound, frameWidth, headerWidth, frameAt, headerAt, State, cell, isLive, isFree, found}
 use Rattle.rules.specs.Sound.{Sound}
-use Rattle.rules.specs.Calls.{Call, step, newRun, insert, union, remove, removeShared, drain, drainAll, clear, seal, setElement, setShared, compress, compressWith, getSize, getTotal}
+use Rattle.rules.specs.Calls.{Call, step, newRun, insert, union, remove, removeShared, drain, drainAll, clear, undo, seal, setElement, setShared, compress, compressWith, getSize, getTotal}
 use Rattle.rules.specs.History.{History, Given, noted, nothing, runOf, givenFor, othersOf, runsBut, insertedRuns, joinedRuns, removedRuns, sorted, begunAt, ordered, renamed, movedDown}
 use Rattle.rules.specs.Demand.{Agrees}
-use Rattle.rules.proofs.Cases.{rules, Case, did, says, _gives_, key, ok, dead, pool, at, e, ez, s, mz, r, zeros}
+use Rattle.rules.proofs.Cases.{rules, Case, did, says, _gives_, key, ok, dead, pool, at, joinedAs, e, ez, s, mz, r, zeros}
 use Rattle.rules.proofs.Worked.{fresh43}
 
 abbrev most : ℕ
@@ -34,7 +34,7 @@ abbrev four : State
 four = at (pool 4 4 0 4) (pool 3 2 0 2) 1 (ez 1 10 1 2 3 7 ++ ez 1 11 1 3 1 20 ++ ez 1 12 1 1 2 300 ++ ez 1 20 2 4 4 4000) (mz 3 100 0 327 ++ mz 1 200 0 4000 ++ zeros headerWidth 1)
 
 abbrev joined : (frames : List ℕ) → State
-joined frames = at (pool 4 4 0 4) (pool 3 2 2 1) 1 frames (mz 4 100 0 4327 ++ zeros headerWidth 2)
+joined frames = joinedAs 1 4 1 200 (at (pool 4 4 0 4) (pool 3 2 2 1) 1 frames (mz 4 100 0 4327 ++ zeros headerWidth 2))
 
 abbrev fromFirst : State
 fromFirst = joined (ez 1 10 1 2 4 7 ++ ez 1 11 1 3 1 20 ++ ez 1 12 1 4 2 300 ++ ez 1 20 1 1 3 4000)
@@ -85,6 +85,8 @@ table =
     -- union from either side
     step four [] (union (key 1 1) (key 4 1)) gives ok (200 ∷ 1 ∷ 1 ∷ 1 ∷ []) fromFirst [] ∷
     step four [] (union (key 4 1) (key 1 1)) gives ok (200 ∷ 1 ∷ 1 ∷ 1 ∷ []) fromFirst [] ∷
+    -- taken back, the total that comes off is summed along the ring
+    step fromFirst [] undo gives ok [] four [] ∷
     -- removal of the first, the middle and the last frame, and of the only one
     step three [] (remove (key 1 1)) gives ok (10 ∷ []) (less 1 320 (e 0 0 0 0 0 ++ ez 1 11 1 3 3 20 ++ ez 1 12 1 2 2 300)) [] ∷
     step three [] (remove (key 3 1)) gives ok (12 ∷ []) (less 3 27 (ez 1 10 1 2 2 7 ++ ez 1 11 1 1 1 20 ++ e 0 0 0 0 0)) [] ∷
@@ -168,7 +170,7 @@ history-sizes = refl
 
 -- a total that the history does not have: the size of another frame, and one too many
 abbrev alone : (size : ℕ) → History
-alone z = record { runs = (key 1 1 ∷ []) ∷ []; sealed = []; sizes = given (key 1 1) z ∷ []; put = 1; taken = 0; generation = 1 }
+alone z = record { runs = (key 1 1 ∷ []) ∷ []; unjoined = []; sealed = []; sizes = given (key 1 1) z ∷ []; put = 1; taken = 0; generation = 1 }
 
 pub total-given : Agrees (single 7 7) (alone 8) → ⊥
 unfolding cell isLive found othersOf
@@ -176,7 +178,7 @@ total-given A = let z : _≡_ {A = ℕ} 7 8 = A .totals (key 1 1) refl in omega 
 
 -- in a run of two, the sizes of both frames as they were given, each by its own key
 abbrev both : (first second : ℕ) → History
-both y z = record { runs = (key 1 1 ∷ key 2 1 ∷ []) ∷ []; sealed = []; sizes = given (key 2 1) z ∷ given (key 1 1) y ∷ []; put = 2; taken = 0; generation = 1 }
+both y z = record { runs = (key 1 1 ∷ key 2 1 ∷ []) ∷ []; unjoined = []; sealed = []; sizes = given (key 2 1) z ∷ given (key 1 1) y ∷ []; put = 2; taken = 0; generation = 1 }
 
 pub total-given-both : Agrees two (both 7 19) → ⊥
 unfolding cell isLive found othersOf

@@ -104,7 +104,7 @@ pub mark-unsealed : Agrees (marked 1) alone → ⊥
 unfolding cell isLive found
 mark-unsealed A = let z : _≡_ {A = ℕ} 1 0 = A .marks (key 1 1) refl in omega arith
 
-pub sealed-unmarked : Agrees (marked 0) (record { runs = alone .runs; sealed = key 1 1 ∷ []; sizes = []; put = 1; taken = 0; generation = 1 }) → ⊥
+pub sealed-unmarked : Agrees (marked 0) (record { runs = alone .runs; unjoined = []; sealed = key 1 1 ∷ []; sizes = []; put = 1; taken = 0; generation = 1 }) → ⊥
 unfolding cell isLive found
 sealed-unmarked A = let z : _≡_ {A = ℕ} 0 1 = A .marks (key 1 1) refl in omega arith
 
@@ -112,7 +112,7 @@ sealed-unmarked A = let z : _≡_ {A = ℕ} 0 1 = A .marks (key 1 1) refl in ome
 abbrev crossed : State
 crossed = at (pool 2 2 0 2) (pool 2 2 0 2) 1 (e 1 10 2 1 1 ++ e 1 20 1 2 2) (s 1 200 0 ++ m 1 100 1)
 
-pub mark-crossed : Agrees crossed (record { runs = (key 1 1 ∷ []) ∷ (key 2 1 ∷ []) ∷ []; sealed = key 2 1 ∷ []; sizes = []; put = 2; taken = 0; generation = 1 }) → ⊥
+pub mark-crossed : Agrees crossed (record { runs = (key 1 1 ∷ []) ∷ (key 2 1 ∷ []) ∷ []; unjoined = []; sealed = key 2 1 ∷ []; sizes = []; put = 2; taken = 0; generation = 1 }) → ⊥
 unfolding cell isLive found
 mark-crossed A = let z : _≡_ {A = ℕ} 1 0 = A .marks (key 1 1) refl in omega arith
 

@@ -54,7 +54,7 @@ abbrev one1 : State
 one1 = at (one .head .elems) (one .head .shared) 1 (one .elems) (m 1 100 1 ++ zeros headerWidth 2)
 
 abbrev sealedHistory : (runs : List (List Key)) → (sealed : List Key) → (put taken generation : ℕ) → History
-sealedHistory rs ks p t g = record { runs = rs; sealed = ks; sizes = map (λ k. record { key = k; bytes = 0 }) (flat rs); put = p; taken = t; generation = g }
+sealedHistory rs ks p t g = record { runs = rs; unjoined = []; sealed = ks; sizes = map (λ k. record { key = k; bytes = 0 }) (flat rs); put = p; taken = t; generation = g }
 
 abbrev alone1 : History
 alone1 = sealedHistory ((key 1 1 ∷ []) ∷ []) (key 1 1 ∷ []) 1 0 1

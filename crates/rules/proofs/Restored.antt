@@ -153,15 +153,15 @@ chained-sound = record {
 
 pub insert-refused : AtDoor (saved 2 0 1) [] (insert (key 2 1) 40 0) (refused 2 (saved 2 0 1) [])
 unfolding rules
-insert-refused = record { sound = false; decided = λ _. unsound; same = refl }
+insert-refused = record { sound = false; decided = λ _ w. unsound (w .0); same = refl }
 
 pub newRun-refused : AtDoor (saved 2 1 0) [] (newRun 40 400 0) (refused 2 (saved 2 1 0) [])
 unfolding rules
-newRun-refused = record { sound = false; decided = λ _. shared-unsound; same = refl }
+newRun-refused = record { sound = false; decided = λ _ w. shared-unsound (w .0); same = refl }
 
 pub insert-given : AtDoor chained [] (insert (key 2 1) 40 0) (ok (1 ∷ 2 ∷ []) inserted [])
 unfolding rules
-insert-given = record { sound = true; decided = λ _. chained-sound; same = refl }
+insert-given = record { sound = true; decided = λ _. (chained-sound, inl refl); same = refl }
 
 -- ---- no slot is free: of four frames in four slots, but not of two headers in three, nor where a slot within the extent is free
 

@@ -8,7 +8,7 @@ use lib.Dec.{T}
 use Rattle.rules.specs.declared.Key.{Key}
 use Rattle.rules.specs.declared.Refusal.the-variants.{NoElement, NoShared}
 use Rattle.rules.specs.Tables.{State, elemSide, sharedSide}
-use Rattle.rules.specs.Sound.{Sound}
+use Rattle.rules.specs.Undo.{Whole}
 use Rattle.rules.specs.Refusals.{Outcome, shaped}
 use Rattle.rules.specs.Calls.{Call, newRun, insert, Is, AtDoor}
 use Rattle.rules.specs.Exact.{asks, NoneFree, Turn}
@@ -17,14 +17,14 @@ use Rattle.rules.proofs.Exactly.{exactly-5, exactly-6}
 
 -- past 1 and 2 the state is sound
 module _ (st : State) (lent : List ℕ) (c : Call) (o : Outcome) (d : AtDoor st lent c o) where
-  sound-then : (shaped st ≡ false → ⊥) → ((Sound st → ⊥) → ⊥) → Sound st
+  sound-then : (shaped st ≡ false → ⊥) → ((Whole st → ⊥) → ⊥) → Whole st
   sound-then fits sound = go (d .sound) (d .decided (not-false (shaped st) fits))
     where
       not-false : (b : Bool) → (b ≡ false → ⊥) → b ≡ true
       not-false true n = cc
       not-false false n = absurd (n cc)
 
-      go : (b : Bool) → Is (Sound st) b → Sound st
+      go : (b : Bool) → Is (Whole st) b → Whole st
       go true s = s
       go false n = absurd (sound n)
 
@@ -32,13 +32,13 @@ module _ (st : State) (lent : List ℕ) (c : Call) (o : Outcome) (d : AtDoor st 
   pub no-element-exactly : T (asks st c .element) → Turn st lent c NoElement → (o .said .number ≡ 5) ↔ NoneFree (elemSide st)
   no-element-exactly a t =
       let e = exactly-5 st lent c o d in
-      let f = full-exactly st (sound-then (t .0) (t .1 .0)) .0 in
+      let f = full-exactly st (sound-then (t .0) (t .1 .0) .0) .0 in
       ((λ n. f .0 (e .0 n .0 .1)), λ n. e .1 ((a, f .1 n), t))
 
   pub no-shared-exactly : T (asks st c .shared) → Turn st lent c NoShared → (o .said .number ≡ 6) ↔ NoneFree (sharedSide st)
   no-shared-exactly a t =
       let e = exactly-6 st lent c o d in
-      let f = full-exactly st (sound-then (t .0) (t .1 .0)) .1 in
+      let f = full-exactly st (sound-then (t .0) (t .1 .0) .0) .1 in
       ((λ n. f .0 (e .0 n .0 .1)), λ n. e .1 ((a, f .1 n), t))
 
 module _ (st : State) (lent : List ℕ) (o : Outcome) where

@@ -63,3 +63,13 @@ pub mod Doors
 pub mod SameRuns
 pub mod Ranks
 pub mod Written
+pub mod Remembering
+pub mod Split
+pub mod Cut
+pub mod Undo
+pub mod Traced
+pub mod Described
+pub mod Undone
+pub mod Dropped
+pub mod Recalls
+pub mod UnionUndone

@@ -10,6 +10,8 @@ use Rattle.rules.specs.Refusals.{Ruling, Outcome, outcome, shaped, door}
 use Rattle.rules.specs.Reads
 use Rattle.rules.specs.Slots
 use Rattle.rules.specs.Runs
+use Rattle.rules.specs.Undo
+use Rattle.rules.specs.Undo.{Whole}
 use Rattle.rules.specs.Drains
 use Rattle.rules.specs.Seals
 use Rattle.rules.specs.Exchange
@@ -25,7 +27,7 @@ pub data Call : Type 0 where
   exchange : List Key → (values : List ℕ) → Call
   newRun : (payload value size : ℕ) → Call
   compress compressWith : (reset : Bool) → Call
-  check drainAll clear : Call
+  check drainAll clear undo : Call
 
 abbrev pub ruling : State → (lent : List ℕ) → Call → Ruling
 ruling st lent (lenSurject k) = Reads.lenSurject st k
@@ -48,6 +50,7 @@ ruling st lent (drain k) = Drains.drain st lent k
 ruling st lent (seal k) = Seals.seal st lent k
 ruling st lent drainAll = Drains.drainAll st lent
 ruling st lent clear = Drains.clear st
+ruling st lent undo = Undo.undo st
 ruling st lent (exchange keys values) = Exchange.exchange st keys values
 ruling st lent (compress reset) = Compress.compress st lent reset
 ruling st lent (compressWith reset) = Compress.compressWith st lent reset
@@ -72,5 +75,5 @@ Is P false = P → ⊥
 -- Tables, last: the host's door. What is promised of the outcome of each call; soundness is asked where shape fits (Refusals 2)
 pub record AtDoor (st : State) (lent : List ℕ) (c : Call) (o : Outcome) : Type 0 where
   pub sound : Bool
-  pub decided : shaped st ≡ true → Is (Sound st) sound
+  pub decided : shaped st ≡ true → Is (Whole st) sound
   pub same : o ≡ outcome st lent (door st sound (ruling st lent c))

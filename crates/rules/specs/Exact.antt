@@ -11,14 +11,14 @@ use Rattle.rules.specs.declared.Key.{Key}
 use Rattle.rules.specs.declared.Cause.{Cause}
 use Rattle.rules.specs.declared.Cause.the-variants.{NoSlot, FreeSlot, OtherGeneration}
 use Rattle.rules.specs.declared.Refusal.{Refusal}
-use Rattle.rules.specs.declared.Refusal.the-variants.{Shape, Unsound, Dead, SameClass, NoElement, NoShared, Short, Malformed, Sealed}
-use Rattle.rules.specs.Tables.{frameWidth, generationOf, classOf, State, Side, isFree, LiveKey, sizeAt, isSealed}
-use Rattle.rules.specs.Sound.{Sound}
+use Rattle.rules.specs.declared.Refusal.the-variants.{Shape, Unsound, Dead, SameClass, NoElement, NoShared, Short, Malformed, Nothing, Sealed}
+use Rattle.rules.specs.Tables.{frameWidth, generationOf, classOf, State, blank, Side, isFree, LiveKey, sizeAt, isSealed}
+use Rattle.rules.specs.Undo.{Whole}
 use Rattle.rules.specs.Refusals.{shaped}
 use Rattle.rules.specs.Drains.{keyWidth, recordWidth}
 use Rattle.rules.specs.Seals.{sealWidth}
 use Rattle.rules.specs.Compress.{pairWidth}
-use Rattle.rules.specs.Calls.{Call, lenSurject, inSameSurject, getElement, getShared, getSize, getTotal, lookup, setElement, setShared, check, newRun, insert, union, remove, removeShared, list, drain, seal, drainAll, clear, exchange, compress, compressWith}
+use Rattle.rules.specs.Calls.{Call, lenSurject, inSameSurject, getElement, getShared, getSize, getTotal, lookup, setElement, setShared, check, newRun, insert, union, remove, removeShared, list, drain, seal, drainAll, clear, undo, exchange, compress, compressWith}
 
 -- one of these, two of these, none of these
 abbrev pub Some : {A : Type 0} → (A → Type 0) → List A → Type 0
@@ -35,6 +35,8 @@ None P (x ∷ xs) = (P x → ⊥) × None P xs
 
 -- What a call asks for
 pub record Asks : Type 0 where
+  -- 10: whether a union is taken back
+  pub back : Bool
   -- 3: the keys handed in; 4: whether two of them may not be in one class
   pub keys : List Key
   pub apart : Bool
@@ -47,22 +49,25 @@ pub record Asks : Type 0 where
   pub numbers : ℕ
 
 abbrev pub onKeys : List Key → Asks
-onKeys keys = record { keys = keys; apart = false; unsealed = false; shared = false; element = false; numbers = 0 }
+onKeys keys = record { back = false; keys = keys; apart = false; unsealed = false; shared = false; element = false; numbers = 0 }
+
+abbrev pub takingBack : Asks
+takingBack = record { back = true; keys = []; apart = false; unsealed = false; shared = false; element = false; numbers = 0 }
 
 abbrev pub onKeysApart : List Key → Asks
-onKeysApart keys = record { keys = keys; apart = true; unsealed = false; shared = false; element = false; numbers = 0 }
+onKeysApart keys = record { back = false; keys = keys; apart = true; unsealed = false; shared = false; element = false; numbers = 0 }
 
 abbrev pub joining : List Key → Asks
-joining keys = record { keys = keys; apart = true; unsealed = true; shared = false; element = false; numbers = 0 }
+joining keys = record { back = false; keys = keys; apart = true; unsealed = true; shared = false; element = false; numbers = 0 }
 
 abbrev pub takingSlots : List Key → (shared : Bool) → Asks
-takingSlots keys shared = record { keys = keys; apart = false; unsealed = true; shared = shared; element = true; numbers = 0 }
+takingSlots keys shared = record { back = false; keys = keys; apart = false; unsealed = true; shared = shared; element = true; numbers = 0 }
 
 abbrev pub writing : List Key → (numbers : ℕ) → Asks
-writing keys numbers = record { keys = keys; apart = false; unsealed = false; shared = false; element = false; numbers = numbers }
+writing keys numbers = record { back = false; keys = keys; apart = false; unsealed = false; shared = false; element = false; numbers = numbers }
 
 abbrev pub sealing : List Key → (numbers : ℕ) → Asks
-sealing keys numbers = record { keys = keys; apart = false; unsealed = true; shared = false; element = false; numbers = numbers }
+sealing keys numbers = record { back = false; keys = keys; apart = false; unsealed = true; shared = false; element = false; numbers = numbers }
 
 -- Refusals, below the table: listing, draining and sealing need as many places as frames written, compression as many slots as the element capacity; Ticket 3: a pair for each frame
 abbrev pub asks : State → Call → Asks
@@ -86,6 +91,7 @@ asks st (drain k) = writing (k ∷ []) (sizeAt st (k .slot) * recordWidth)
 asks st (seal k) = sealing (k ∷ []) (sizeAt st (k .slot) * sealWidth)
 asks st drainAll = writing [] (st .head .elems .live * recordWidth)
 asks st clear = onKeys []
+asks st undo = takingBack
 asks st (exchange keys values) = onKeysApart keys
 asks st (compress reset) = writing [] (st .head .elems .capacity * frameWidth)
 asks st (compressWith reset) = writing [] (st .head .elems .live * pairWidth)
@@ -121,10 +127,11 @@ NoneFree t = (s : ℕ) → T (isFree t s) ⊎ ((t .pool .extent < s) × (s ≤ t
 abbrev pub OneClass : State → (j k : Key) → Type 0
 OneClass st j k = classOf (st .elems) (j .slot) ≡ classOf (st .elems) (k .slot)
 
--- Refusals 1 to 8, the table; Ticket 1: 12; Ticket 5: the causes of 3
+-- Refusals 1 to 8, the table; Ticket 1: 12; Ticket 5: the causes of 3; Ticket 7: 10
 abbrev pub Sentence : State → (lent : List ℕ) → Asks → Refusal → Type 0
 Sentence st lent a Shape = shaped st ≡ false
-Sentence st lent a Unsound = Sound st → ⊥
+Sentence st lent a Unsound = Whole st → ⊥
+Sentence st lent a Nothing = T (a .back) × (st .head .undo ≡ blank)
 Sentence st lent a (Dead cause) = FirstDead st cause (a .keys)
 Sentence st lent a SameClass = T (a .apart) × Two (OneClass st) (a .keys)
 Sentence st lent a NoElement = T (a .element) × Full (st .head .elems)
@@ -133,14 +140,15 @@ Sentence st lent a Short = length lent < a .numbers
 Sentence st lent a Malformed = ⊥
 Sentence st lent a Sealed = T (a .unsealed) × Some (λ k. T (isSealed st (k .slot))) (a .keys)
 
--- Refusals, order: 1, 2, 3, 4, 12 (Ticket 1), 6, 5, 7; 8 is the script program's alone
+-- Refusals, order: 1, 2, 10 (Ticket 7), 3, 4, 12 (Ticket 1), 6, 5, 7; 8 is the script program's alone
 abbrev pub untilDead : List Refusal
-untilDead = Shape ∷ Unsound ∷ Dead NoSlot ∷ Dead FreeSlot ∷ Dead OtherGeneration ∷ []
+untilDead = Shape ∷ Unsound ∷ Nothing ∷ Dead NoSlot ∷ Dead FreeSlot ∷ Dead OtherGeneration ∷ []
 
 abbrev pub earlier : Refusal → List Refusal
 earlier Shape = []
 earlier Unsound = Shape ∷ []
-earlier (Dead cause) = Shape ∷ Unsound ∷ []
+earlier Nothing = Shape ∷ Unsound ∷ []
+earlier (Dead cause) = Shape ∷ Unsound ∷ Nothing ∷ []
 earlier SameClass = untilDead
 earlier Sealed = untilDead ++ SameClass ∷ []
 earlier NoShared = untilDead ++ SameClass ∷ Sealed ∷ []

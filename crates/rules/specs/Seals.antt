@@ -5,7 +5,7 @@ use mathlib.Core.List.{List, [], _∷_, _++_, map}
 use Rattle.rules.specs.declared.Key.{Key}
 use Rattle.rules.specs.declared.Refusal.the-variants.{Short, Sealed}
 use Rattle.rules.specs.Notation.{if_then_else_, flat}
-use Rattle.rules.specs.Tables.{headerWidth, headerAt, put, payloadOf, classOf, valueOf, State, withShared, keyAt, sizeAt, isSealed}
+use Rattle.rules.specs.Tables.{headerWidth, headerAt, put, payloadOf, classOf, valueOf, State, withShared, forgetting, keyAt, sizeAt, isSealed}
 use Rattle.rules.specs.Refusals.{Ruling, refuse, accept, withLive}
 use Rattle.rules.specs.Runs.{keyValues}
 use Rattle.rules.specs.Drains.{ring, isShort}
@@ -19,7 +19,7 @@ sealPlace st x = keyValues (keyAt st x) ++ payloadOf (st .elems) x ∷ []
 
 -- the mark of a class is set
 unfoldable pub sealed : State → (class : ℕ) → State
-sealed st c = withShared st (put headerWidth (st .shared) c (headerAt .mark) 1)
+sealed st c = forgetting (withShared st (put headerWidth (st .shared) c (headerAt .mark) 1))
 
 -- the answer is the header's value and count; the places are written in ring order from the key
 unfoldable pub seal : State → (lent : List ℕ) → Key → Ruling

@@ -7,6 +7,7 @@ use lib.ListN.{getD, set}
 use lib.Seq.{sets}
 use Rattle.rules.specs.declared.Pool.{Pool}
 use Rattle.rules.specs.declared.Head.{Head}
+use Rattle.rules.specs.declared.Memory.{Memory}
 use Rattle.rules.specs.declared.Key.{Key}
 use Rattle.rules.specs.declared.Cause.{Cause}
 use Rattle.rules.specs.declared.Cause.the-variants.{NoSlot, FreeSlot, OtherGeneration}
@@ -102,7 +103,11 @@ pub record State : Type 0 where
 abbrev pub stateOf : Head → (elems shared : List ℕ) → State
 stateOf head elems shared = record { head = head; elems = elems; shared = shared }
 
--- the state with another table, and the head with other pools or another generation
+-- Ticket 7: what the head remembers when there is nothing to undo
+abbrev pub blank : Memory
+blank = record { kept = 0; gone = 0; moved = 0; value = 0 }
+
+-- the state with another table, and the head with other pools or another generation, which has nothing to undo
 abbrev pub withElems : State → List ℕ → State
 withElems st elems = record { head = st .head; elems = elems; shared = st .shared }
 
@@ -110,10 +115,20 @@ abbrev pub withShared : State → List ℕ → State
 withShared st shared = record { head = st .head; elems = st .elems; shared = shared }
 
 abbrev pub withPools : Head → (elems shared : Pool) → Head
-withPools h elems shared = record { elems = elems; shared = shared; generation = h .generation }
+withPools h elems shared = record { elems = elems; shared = shared; generation = h .generation; undo = blank }
 
 abbrev pub withGeneration : Head → ℕ → Head
-withGeneration h g = record { elems = h .elems; shared = h .shared; generation = g }
+withGeneration h g = record { elems = h .elems; shared = h .shared; generation = g; undo = blank }
+
+-- Ticket 7: the head and the state that remember `m`, and the state that has nothing to undo
+abbrev pub remembering : Head → Memory → Head
+remembering h m = record { elems = h .elems; shared = h .shared; generation = h .generation; undo = m }
+
+abbrev pub withUndo : State → Memory → State
+withUndo st m = record { head = remembering (st .head) m; elems = st .elems; shared = st .shared }
+
+abbrev pub forgetting : State → State
+forgetting st = withUndo st blank
 
 -- Tables 1 and 2: what both tables have alike. The field `used` is 0 when a slot is free, and the field `link` then holds the next free slot.
 pub record Side : Type 0 where

@@ -3,7 +3,7 @@
 ghost use mathlib.Core.Path.{_≡_};
 ghost use Prim.Native.Nat.{_+_, _≤_};
 ghost use Rattle.rules.specs.Notation.{_==_};
-ghost use Rattle.rules.specs.Tables.{mostSlots, lastGeneration, withPools, withGeneration};
+ghost use Rattle.rules.specs.Tables.{mostSlots, lastGeneration, withPools, withGeneration, blank, remembering};
 ghost use Rattle.rules.specs.Slots.{slotOf, isFull, freed, raised};
 
 // Numbers to an element slot and to a shared slot (docs/LAYOUT.md); in the rules, frameWidth and headerWidth.
@@ -105,12 +105,31 @@ impl Pool {
     }
 }
 
+// Ticket 7: what the head keeps of the last union, zeros when there is nothing: the slots of the keys whose class was kept and went,
+// the class entries rewritten, and the value of the header that went.
+#[repr(C)]
+pub struct Memory {
+    pub kept: u64,
+    pub gone: u64,
+    pub moved: u64,
+    pub value: u64,
+}
+
+// Nothing to undo; in the rules, blank.
+pub const BLANK: Memory = Memory {
+    kept: 0,
+    gone: 0,
+    moved: 0,
+    value: 0,
+};
+
 // Tables and head: the head of both tables.
 #[repr(C)]
 pub struct Head {
     pub elems: Pool,
     pub shared: Pool,
     pub generation: u64,
+    pub undo: Memory,
 }
 
 // The head with its generation raised, and whether that says overflow.
@@ -120,13 +139,24 @@ pub struct Raised {
 }
 
 impl Head {
+    // Ticket 7: nothing is left to undo.
+    pub fn forget(mut self) -> Self
+        ensures { λ r. ⌜ r ≡ remembering self blank ⌝ }
+    {
+        let none = BLANK;
+        self.undo = none;
+        self
+    }
+
     // Rules 3, of an element slot: the free root is taken, and `next` becomes the root.
     pub fn pop_element(mut self, next: u64) -> Self
         requires { ⌜ self .elems .live ≤ mostSlots ⌝ }
         ensures { λ r. ⌜ r ≡ withPools self (record { capacity = self .elems .capacity; extent = self .elems .extent; root = next; live = self .elems .live + 1 }) (self .shared) ⌝ }
     {
         let pool = self.elems.pop(next);
+        let none = BLANK;
         self.elems = pool;
+        self.undo = none;
         self
     }
 
@@ -136,7 +166,9 @@ impl Head {
         ensures { λ r. ⌜ r ≡ withPools self (record { capacity = self .elems .capacity; extent = self .elems .extent + 1; root = self .elems .root; live = self .elems .live + 1 }) (self .shared) ⌝ }
     {
         let pool = self.elems.grow();
+        let none = BLANK;
         self.elems = pool;
+        self.undo = none;
         self
     }
 
@@ -146,7 +178,9 @@ impl Head {
         ensures { λ r. ⌜ r ≡ withPools self (freed (self .elems) slot) (self .shared) ⌝ }
     {
         let pool = self.elems.push(slot);
+        let none = BLANK;
         self.elems = pool;
+        self.undo = none;
         self
     }
 
@@ -156,7 +190,9 @@ impl Head {
         ensures { λ r. ⌜ r ≡ withPools self (self .elems) (record { capacity = self .shared .capacity; extent = self .shared .extent; root = next; live = self .shared .live + 1 }) ⌝ }
     {
         let pool = self.shared.pop(next);
+        let none = BLANK;
         self.shared = pool;
+        self.undo = none;
         self
     }
 
@@ -166,7 +202,9 @@ impl Head {
         ensures { λ r. ⌜ r ≡ withPools self (self .elems) (record { capacity = self .shared .capacity; extent = self .shared .extent + 1; root = self .shared .root; live = self .shared .live + 1 }) ⌝ }
     {
         let pool = self.shared.grow();
+        let none = BLANK;
         self.shared = pool;
+        self.undo = none;
         self
     }
 
@@ -176,7 +214,9 @@ impl Head {
         ensures { λ r. ⌜ r ≡ withPools self (self .elems) (freed (self .shared) slot) ⌝ }
     {
         let pool = self.shared.push(slot);
+        let none = BLANK;
         self.shared = pool;
+        self.undo = none;
         self
     }
 
@@ -185,6 +225,8 @@ impl Head {
         requires { ⌜ self .generation ≤ lastGeneration ⌝ }
         ensures { λ r. ⌜ r ≡ record { head = withGeneration self (raised (self .generation)); over = self .generation == lastGeneration } ⌝ }
     {
+        let none = BLANK;
+        self.undo = none;
         if self.generation == LAST_GENERATION {
             self.generation = 1;
             return Raised {
@@ -223,6 +265,7 @@ pub enum Refusal {
     NoShared,
     Short,
     Malformed,
+    Nothing,
     Sealed,
 }
 
@@ -232,7 +275,7 @@ pub enum Found {
     Dead(Cause),
 }
 
-// The answer of fresh, the check, lookup, clear and compression.
+// The answer of fresh, the check, lookup, clear, undo and compression.
 pub enum Done {
     Done,
     Refused(Refusal),
@@ -308,6 +351,16 @@ pub struct HeadInserted {
 pub struct HeadJoined {
     pub head: Head,
     pub answer: Joined,
+}
+
+pub struct HeadSeal {
+    pub head: Head,
+    pub answer: Seal,
+}
+
+pub struct HeadExchanged {
+    pub head: Head,
+    pub answer: Exchanged,
 }
 
 pub struct HeadRemoved {

@@ -10,6 +10,7 @@ ghost use Rattle.blocks.specs.Progress.{Working, Doing, Ran};
 use blocks::Progress;
 use blocks::answer;
 use blocks::feed;
+use rules::BLANK;
 use rules::Head;
 use rules::Pool;
 use stdio::Sent;
@@ -31,6 +32,7 @@ fn fresh_head() -> Head
         elems: pool,
         shared: pool,
         generation: 1,
+        undo: BLANK,
     }
 }
 

@@ -11,7 +11,7 @@ use Rattle.rules.specs.declared.Key.{Key}
 use Rattle.rules.specs.declared.Found.the-variants as lookup
 use Rattle.rules.specs.declared.Cause.{Cause}
 use Rattle.rules.specs.declared.Refusal.the-variants.{Dead, Short, Sealed}
-use Rattle.rules.specs.Tables.{headerWidth, headerAt, put, classOf, valueOf, State, withShared, found, sizeAt, isSealed}
+use Rattle.rules.specs.Tables.{headerWidth, headerAt, put, classOf, valueOf, State, withShared, forgetting, found, sizeAt, isSealed}
 use Rattle.rules.specs.Refusals.{outcome, saidAccepted, refuse}
 use Rattle.rules.specs.Seals.{sealWidth, sealed, seal}
 use Rattle.rules.specs.Calls.{step}
@@ -38,7 +38,7 @@ module _ (st : State) (lent : List ℕ) (k : Key) where
     pub seal-done : (value : ℕ) (shared out : List ℕ) → isSealed st x ≡ false → sizeAt st x * sealWidth ≤ length lent
         → value ≡ valueOf (st .shared) (classOf (st .elems) x) → shared ≡ put headerWidth (st .shared) (classOf (st .elems) x) (headerAt .mark) 1
         → out ≡ sets lent 0 (placesAlong (framePlace (st .elems)) (st .elems) (sizeAt st x) x)
-        → record { said = saidAccepted (value ∷ sizeAt st x ∷ []) false; state = withShared st shared; lent = out } ≡ step st lent (calls.seal k)
+        → record { said = saidAccepted (value ∷ sizeAt st x ∷ []) false; state = forgetting (withShared st shared); lent = out } ≡ step st lent (calls.seal k)
     unfolding seal sealed
     seal-done value shared out s l v m e =
         let places = placesAlong (framePlace (st .elems)) (st .elems) (sizeAt st x) x in

@@ -6,6 +6,7 @@ use rules::Found;
 use rules::GENERATION;
 use rules::HEADER;
 use rules::Head;
+use rules::HeadSeal;
 use rules::Key;
 use rules::MARK;
 use rules::NEXT;
@@ -22,7 +23,7 @@ ghost use Rattle.rules.specs.Tables.{row, stateOf};
 ghost use Rattle.rules.specs.Seals.{sealWidth};
 ghost use Rattle.rules.specs.Calls as calls;
 ghost use Rattle.rules.specs.Calls.{Ready, step};
-ghost use Rattle.rules.specs.Answers.{leaves, saidSeal};
+ghost use Rattle.rules.specs.Answers.{afterSeal};
 ghost use Rattle.slots.specs.Asked.{Within, Along};
 ghost use Rattle.rings.specs.Answered.{placesAlong};
 ghost use Rattle.seals.specs.Answered.{framePlace};
@@ -59,24 +60,39 @@ fn write_places(elems: &[u64], n: u64, x: u64, out: &mut [u64])
 }
 
 // Value and count are answered, the run is written in ring order from the given key, and its header is marked.
-pub fn seal(head: Head, elems: &[u64], shared: &mut [u64], key: Key, out: &mut [u64]) -> Seal
+pub fn seal(head: Head, elems: &[u64], shared: &mut [u64], key: Key, out: &mut [u64]) -> HeadSeal
     requires { ⌜ Ready (stateOf head (now elems) (now shared)) ⌝ }
-    ensures { λ r. ⌜ leaves head (now (elems .entry)) (now (shared .exit)) (now (out .exit)) (saidSeal r) ≡ step (stateOf head (now (elems .entry)) (now (shared .entry))) (now (out .entry)) (calls.seal key) ⌝ }
+    ensures { λ r. ⌜ afterSeal r (now (elems .entry)) (now (shared .exit)) (now (out .exit)) ≡ step (stateOf head (now (elems .entry)) (now (shared .entry))) (now (out .entry)) (calls.seal key) ⌝ }
 {
     let x = match slots::find(head, elems, key) {
         Found::Live(x) => x,
-        Found::Dead(cause) => return Seal::Refused(Refusal::Dead(cause)),
+        Found::Dead(cause) => {
+            return HeadSeal {
+                head,
+                answer: Seal::Refused(Refusal::Dead(cause)),
+            };
+        }
     };
     if slots::is_sealed(head, elems, shared, x) {
-        return Seal::Refused(Refusal::Sealed);
+        return HeadSeal {
+            head,
+            answer: Seal::Refused(Refusal::Sealed),
+        };
     }
     let class = slots::get(elems, FRAME, CLASS, x);
     let count = slots::get(shared, HEADER, COUNT, class);
     if (out.len() as u64) < count * SEAL_WIDTH {
-        return Seal::Refused(Refusal::Short);
+        return HeadSeal {
+            head,
+            answer: Seal::Refused(Refusal::Short),
+        };
     }
     write_places(elems, count, x, out);
     let value = slots::get(shared, HEADER, VALUE, class);
     slots::put(shared, HEADER, class, MARK, 1);
-    Seal::Is { value, count }
+    let next = head.forget();
+    HeadSeal {
+        head: next,
+        answer: Seal::Is { value, count },
+    }
 }

@@ -9,7 +9,7 @@ use mathlib.Core.Bool.{Bool}
 use mathlib.Core.List.{List, [], _∷_, _++_}
 use Rattle.rules.specs.declared.Cause.the-variants.{NoSlot, FreeSlot, OtherGeneration}
 use Rattle.rules.specs.declared.Refusal.{Refusal}
-use Rattle.rules.specs.declared.Refusal.the-variants.{Shape, Unsound, Dead, SameClass, NoElement, NoShared, Short, Malformed, Sealed}
+use Rattle.rules.specs.declared.Refusal.the-variants.{Shape, Unsound, Dead, SameClass, NoElement, NoShared, Short, Malformed, Nothing, Sealed}
 use Rattle.rules.specs.Refusals.{Outcome, numberOf, valuesOf}
 use Rattle.rules.specs.Answers.{saidBeside}
 use Rattle.rules.specs.Script.{bytes, decimal, causeText, refusedText}
@@ -24,6 +24,7 @@ text-refused print NoElement over lent = refl
 text-refused print NoShared over lent = refl
 text-refused print Short over lent = refl
 text-refused print Malformed over lent = refl
+text-refused print Nothing over lent = refl
 text-refused print Sealed over lent = refl
 
 -- a refusal's number has at most two digits, its cause one
@@ -37,6 +38,7 @@ two-digits NoElement = lit≤ tt
 two-digits NoShared = lit≤ tt
 two-digits Short = lit≤ tt
 two-digits Malformed = lit≤ tt
+two-digits Nothing = lit≤ tt
 two-digits Sealed = lit≤ tt
 
 pub one-cause : (r : Refusal) → causeOrNone (getD (valuesOf r []) 0 0) ≡ causeText (valuesOf r [])
@@ -50,6 +52,7 @@ one-cause NoElement = refl
 one-cause NoShared = refl
 one-cause Short = refl
 one-cause Malformed = refl
+one-cause Nothing = refl
 one-cause Sealed = refl
 
 pub cause-text : (n : ℕ) → (n ≡ 0 → ⊥) → n ≤ 3 → bytes " cause " ++ (48 + n) ∷ [] ≡ causeOrNone n

@@ -3,7 +3,7 @@ use Prim.Native.Nat.{ℕ, suc, _+_, _≤_, _<_}
 use mathlib.Core.Path.{_≡_, refl, ap, _∙_}
 use mathlib.Core.Logic.{_≢_}
 use mathlib.Core.Bool.{Bool, true, false}
-use mathlib.Core.List.{List, []}
+use mathlib.Core.List.{List, [], _∷_}
 use native.Mathlib.Omega.{arith}
 use lib.ListN.{length}
 use borrow.Author.Tests.{eq-eqb, ne-eqb}
@@ -12,10 +12,10 @@ use Rattle.rules.specs.declared.Key.{Key}
 use Rattle.rules.specs.declared.Joined.the-variants.{Into}
 use Rattle.rules.specs.declared.Refusal.the-variants.{SameClass, Sealed}
 use Rattle.rules.specs.Notation.{if_then_else_, _<?_}
-use Rattle.rules.specs.Tables.{classOf, valueOf, totalOf, nextOf, State, stateOf, sizeAt, isSealed}
-use Rattle.rules.specs.Refusals.{Outcome, outcome, refuse}
+use Rattle.rules.specs.Tables.{classOf, valueOf, totalOf, nextOf, State, stateOf, sizeAt, isSealed, remembering, withUndo}
+use Rattle.rules.specs.Refusals.{Outcome, outcome, refuse, answer}
 use Rattle.rules.specs.Slots.{freeShared}
-use Rattle.rules.specs.Runs.{counted, rewritten, exchanged, joined, keeping}
+use Rattle.rules.specs.Runs.{counted, rewritten, exchanged, joined, remembered, keeping}
 use Rattle.rules.specs.Answers.{afterJoined}
 use Rattle.slots.specs.Asked.{Next}
 use Rattle.slots.proofs.Rewrites.{rewritten-next, length-rewritten}
@@ -45,9 +45,10 @@ joined-by st x y c next e s s′ f p q r = f ∙ rw (p, q, r)
 
 pub keeping-by : (st : State) (x y : ℕ) (kept : Key) (next : Head) (e s : List ℕ) (was moved : ℕ)
     → was ≡ valueOf (st .shared) (classOf (st .elems) y) → moved ≡ sizeAt st y → stateOf next e s ≡ joined st x y
-    → afterJoined (record { head = next; answer = Into was kept moved }) e s [] ≡ outcome st [] (keeping st x y kept)
+    → afterJoined (record { head = remembering next (record { kept = x; gone = y; moved = moved; value = was }); answer = Into was kept moved }) e s [] ≡ outcome st [] (keeping st x y kept)
 unfolding keeping
-keeping-by st x y kept next e s was moved p q f = rw (f, p, q)
+keeping-by st x y kept next e s was moved p q f =
+    rw (p, q) (ap (λ (t : State). outcome st [] (answer (valueOf (st .shared) (classOf (st .elems) y) ∷ kept .slot ∷ kept .generation ∷ sizeAt st y ∷ []) (withUndo t (remembered st x y)))) f)
 
 -- who keeps its class
 abbrev pub chosen : (x y : ℕ) → (j k : Key) → Bool → Roles

@@ -9,6 +9,7 @@ use rules::Head;
 use rules::HeadJoined;
 use rules::Joined;
 use rules::Key;
+use rules::Memory;
 use rules::Refusal;
 use rules::TOTAL;
 use rules::VALUE;
@@ -62,7 +63,14 @@ fn join(head: Head, elems: &mut [u64], shared: &mut [u64], x: u64, y: u64, kept:
     slots::rewrite(elems, moved, y, keeps);
     slots::exchange(elems, x, y);
     slots::recount(shared, keeps, size + moved, total + added);
-    let next = slots::free_header(head, shared, goes);
+    let memory = Memory {
+        kept: x,
+        gone: y,
+        moved,
+        value: was,
+    };
+    let mut next = slots::free_header(head, shared, goes);
+    next.undo = memory;
     HeadJoined {
         head: next,
         answer: Joined::Into { was, kept, moved },

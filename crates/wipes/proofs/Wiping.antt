@@ -7,7 +7,7 @@ use mathlib.Core.List.{List, []}
 use lib.ListN.{length}
 use Rattle.rules.specs.declared.Head.{Head}
 use Rattle.rules.specs.declared.Refusal.the-variants.{Shape}
-use Rattle.rules.specs.Tables.{frameWidth, headerWidth, State, stateOf}
+use Rattle.rules.specs.Tables.{blank, frameWidth, headerWidth, State, stateOf}
 use Rattle.rules.specs.Sound.{bothFit}
 use Rattle.rules.specs.Refusals.{Outcome, outcome, refuse, answer}
 use Rattle.rules.specs.Slots.{emptyPool, empty, fresh}
@@ -20,7 +20,7 @@ use Rattle.wipes.specs.Wiped.{ZeroPast}
 pub fit-past : (elems shared : List ℕ) (frames headers : ℕ) → ((h : Head) → bothFit (stateOf h elems shared) frames headers ≡ true)
     → ZeroPast frames frameWidth frames elems × ZeroPast headers headerWidth headers shared
 fit-past elems shared frames headers f =
-    let h : Head = record { elems = emptyPool frames; shared = emptyPool headers; generation = 1 } in
+    let h : Head = record { elems = emptyPool frames; shared = emptyPool headers; generation = 1; undo = blank } in
     let s = shaped-of (stateOf h elems shared) (f h) in
     let e : length elems ≤ frames * frameWidth = omega (arith, s .elems .long) in
     let g : length shared ≤ headers * headerWidth = omega (arith, s .shared .long) in (

@@ -1,5 +1,6 @@
 // Rules 2 and 12: fresh and clear.
 // Ported from clear of impl_surject_arena_trait.rs (triple_arena 0.15.1, NOTICE).
+use rules::BLANK;
 use rules::Done;
 use rules::FRAME;
 use rules::HEADER;
@@ -51,6 +52,7 @@ fn blank(
         elems: empty_pool(frames),
         shared: empty_pool(headers),
         generation,
+        undo: BLANK,
     }
 }
 

@@ -1,3 +1,4 @@
+use Rattle.rules.specs.Tables.{blank}
 use mathlib.Core.Path.{ap}
 use native.Mathlib.Omega.{arith}
 use Rattle.rules.specs.declared.Raised.{Raised}
@@ -39,7 +40,7 @@ same-length-3 : tie.Need-same-length-3
 same-length-3 c = search needs
 
 returns-2 : tie.Need-returns-2
-returns-2 c = compressed-is _ _ _ (c .before .before .before .before .before .before .before .before .before .before .before .before .before .before .before .before .before .before .before .before .before .before .before .pre) (omega (arith, c .before .before .before .before .before .before .before .before .before .before .before .before .before .before .before .before .before .before .if1 .left)) _ (ap (λ (r : Raised). r .head .generation) (c .before .before .before .before .before .before .before .before .before .before .before .before .before .before .before .before .before .renew .ensures)) _ _ (c .before .before .before .before .before .before .before .before .before .before .before .before .before .regroup .ensures) _ _ (c .before .before .before .before .before .before .place .ensures) _ (λ i. record { elems = c .before .pack .ensures i; shared = c .pack2 .ensures i; generation = c .before .before .before .before .before .before .before .before .before .before .before .before .before .before .before .before .before .renew .result .head .generation }) _ (ap (λ (r : Raised). r .over) (c .before .before .before .before .before .before .before .before .before .before .before .before .before .before .before .before .before .renew .ensures))
+returns-2 c = compressed-is _ _ _ (c .before .before .before .before .before .before .before .before .before .before .before .before .before .before .before .before .before .before .before .before .before .before .before .pre) (omega (arith, c .before .before .before .before .before .before .before .before .before .before .before .before .before .before .before .before .before .before .if1 .left)) _ (ap (λ (r : Raised). r .head .generation) (c .before .before .before .before .before .before .before .before .before .before .before .before .before .before .before .before .before .renew .ensures)) _ _ (c .before .before .before .before .before .before .before .before .before .before .before .before .before .regroup .ensures) _ _ (c .before .before .before .before .before .before .place .ensures) _ (λ i. record { elems = c .before .pack .ensures i; shared = c .pack2 .ensures i; generation = c .before .before .before .before .before .before .before .before .before .before .before .before .before .before .before .before .before .renew .result .head .generation; undo = blank }) _ (ap (λ (r : Raised). r .over) (c .before .before .before .before .before .before .before .before .before .before .before .before .before .before .before .before .before .renew .ensures))
 
 pub compress-canonical-spec : {M : Type 1} → statement M
 compress-canonical-spec = tie.close (tie.spec mul-if1 returns renew-requires regroup-requires place-requires pack-requires pack-requires-2 same-length same-length-2 same-length-3 returns-2)

@@ -22,19 +22,22 @@ all-differ-requires c κs = search needs
 store-requires : tie.Need-store-requires
 store-requires c κs = search needs
 
+forget-requires : tie.Need-forget-requires
+forget-requires c κs = search needs
+
 same-length : tie.Need-same-length
 same-length c = search needs
 
 returns : tie.Need-returns
 unfolding exchangeAt
-returns c = λ h. rw (← (c .before .before .before .before .before .before .before .before .before .get .ensures), ← (c .before .before .before .before .before .before .before .before .get2 .ensures), ← (c .before .before .before .before .before .before .before .get3 .ensures), ← (c .before .before .before .before .before .before .get4 .ensures), (c .before .before .before .before .before .all-differ .ensures) ∙ (c .before .before .before .before .if1 .taken), (c .before .before .store .ensures .0), (c .before .before .store .ensures .1))
+returns c = rw (← (c .before .before .before .before .before .before .before .before .before .before .get .ensures), ← (c .before .before .before .before .before .before .before .before .before .get2 .ensures), ← (c .before .before .before .before .before .before .before .before .get3 .ensures), ← (c .before .before .before .before .before .before .before .get4 .ensures), (c .before .before .before .before .before .before .all-differ .ensures) ∙ (c .before .before .before .before .before .if1 .taken), (c .before .before .before .store .ensures .0), (c .before .before .before .store .ensures .1), (c .forget .ensures))
 
 refused-requires : tie.Need-refused-requires
 refused-requires c κs = search needs
 
 returns-2 : tie.Need-returns-2
 unfolding exchangeAt
-returns-2 c = λ h. rw (← (c .before .before .before .before .before .before .get .ensures), ← (c .before .before .before .before .before .get2 .ensures), ← (c .before .before .before .before .get3 .ensures), ← (c .before .before .before .get4 .ensures), (c .before .before .all-differ .ensures) ∙ (c .before .if1 .left), (c .refused .ensures))
+returns-2 c = rw (← (c .before .before .before .before .before .before .get .ensures), ← (c .before .before .before .before .before .get2 .ensures), ← (c .before .before .before .before .get3 .ensures), ← (c .before .before .before .get4 .ensures), (c .before .before .all-differ .ensures) ∙ (c .before .if1 .left), (c .refused .ensures .0), (c .refused .ensures .1))
 
 pub exchange-at-spec : {M : Type 1} → statement M
 exchange-at-spec =
@@ -46,6 +49,7 @@ exchange-at-spec =
     get-requires-4
     all-differ-requires
     store-requires
+    forget-requires
     same-length
     returns
     refused-requires

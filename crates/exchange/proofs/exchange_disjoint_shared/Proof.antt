@@ -24,7 +24,7 @@ same-length : tie.Need-same-length
 same-length c = search needs
 
 returns : tie.Need-returns
-returns c = let n : length (c .before .before .before .before .before .before .before .before .before .before .args .t4) ≡ 4 = search needs in of-four _ _ _ _ _ n (c .before .before .exchange-four .ensures)
+returns c = let g = c .before .before .before .before .before .before .before .before .before .before .good .1 .1 .1 .0 in let n : length (c .before .before .before .before .before .before .before .before .before .before .args .t4) ≡ 4 = search needs in of-four _ _ _ _ _ n (c .before .before .exchange-four .ensures)
 
 pub exchange-disjoint-shared-spec : {M : Type 1} → statement M
 exchange-disjoint-shared-spec =

@@ -22,7 +22,7 @@ refused-requires c κs = search needs
 
 returns : tie.Need-returns
 unfolding exchange
-returns c = let s = c .before .before .before .before .before .before .before .args .shared .now in rw ((c .before .before .before .before .find .ensures s .same) ∙ (c .before .before .cause .given .1), (c .refused .ensures))
+returns c = let s = c .before .before .before .before .before .before .before .args .shared .now in rw ((c .before .before .before .before .find .ensures s .same) ∙ (c .before .before .cause .given .1), (c .refused .ensures .0), (c .refused .ensures .1))
 
 find-requires-2 : tie.Need-find-requires-2
 find-requires-2 c κs = let s = safe _ (c .before .before .before .before .before .before .pre) in search needs
@@ -38,7 +38,7 @@ refused-requires-2 c κs = search needs
 
 returns-2 : tie.Need-returns-2
 unfolding exchange
-returns-2 c = let s = c .before .before .before .before .before .before .before .before .before .before .before .args .shared .now in rw ((c .before .before .before .before .before .before .before .before .find .ensures s .same) ∙ (c .before .before .before .before .before .before .w .given .1), (c .before .before .before .before .find2 .ensures s .same) ∙ (c .before .before .cause2 .given .1), (c .refused2 .ensures))
+returns-2 c = let s = c .before .before .before .before .before .before .before .before .before .before .before .args .shared .now in rw ((c .before .before .before .before .before .before .before .before .find .ensures s .same) ∙ (c .before .before .before .before .before .before .w .given .1), (c .before .before .before .before .find2 .ensures s .same) ∙ (c .before .before .cause2 .given .1), (c .refused2 .ensures .0), (c .refused2 .ensures .1))
 
 find-requires-3 : tie.Need-find-requires-3
 find-requires-3 c κs = let s = safe _ (c .before .before .before .before .before .before .before .before .before .before .pre) in search needs
@@ -54,7 +54,7 @@ refused-requires-3 c κs = search needs
 
 returns-3 : tie.Need-returns-3
 unfolding exchange
-returns-3 c = let s = c .before .before .before .before .before .before .before .before .before .before .before .before .before .before .before .args .shared .now in rw ((c .before .before .before .before .before .before .before .before .before .before .before .before .find .ensures s .same) ∙ (c .before .before .before .before .before .before .before .before .before .before .w .given .1), (c .before .before .before .before .before .before .before .before .find2 .ensures s .same) ∙ (c .before .before .before .before .before .before .x .given .1), (c .before .before .before .before .find3 .ensures s .same) ∙ (c .before .before .cause3 .given .1), (c .refused3 .ensures))
+returns-3 c = let s = c .before .before .before .before .before .before .before .before .before .before .before .before .before .before .before .args .shared .now in rw ((c .before .before .before .before .before .before .before .before .before .before .before .before .find .ensures s .same) ∙ (c .before .before .before .before .before .before .before .before .before .before .w .given .1), (c .before .before .before .before .before .before .before .before .find2 .ensures s .same) ∙ (c .before .before .before .before .before .before .x .given .1), (c .before .before .before .before .find3 .ensures s .same) ∙ (c .before .before .cause3 .given .1), (c .refused3 .ensures .0), (c .refused3 .ensures .1))
 
 find-requires-4 : tie.Need-find-requires-4
 find-requires-4 c κs = let s = safe _ (c .before .before .before .before .before .before .before .before .before .before .before .before .before .before .pre) in search needs
@@ -70,7 +70,7 @@ refused-requires-4 c κs = search needs
 
 returns-4 : tie.Need-returns-4
 unfolding exchange
-returns-4 c = let s = c .before .before .before .before .before .before .before .before .before .before .before .before .before .before .before .before .before .before .before .args .shared .now in rw ((c .before .before .before .before .before .before .before .before .before .before .before .before .before .before .before .before .find .ensures s .same) ∙ (c .before .before .before .before .before .before .before .before .before .before .before .before .before .before .w .given .1), (c .before .before .before .before .before .before .before .before .before .before .before .before .find2 .ensures s .same) ∙ (c .before .before .before .before .before .before .before .before .before .before .x .given .1), (c .before .before .before .before .before .before .before .before .find3 .ensures s .same) ∙ (c .before .before .before .before .before .before .y .given .1), (c .before .before .before .before .find4 .ensures s .same) ∙ (c .before .before .cause4 .given .1), (c .refused4 .ensures))
+returns-4 c = let s = c .before .before .before .before .before .before .before .before .before .before .before .before .before .before .before .before .before .before .before .args .shared .now in rw ((c .before .before .before .before .before .before .before .before .before .before .before .before .before .before .before .before .find .ensures s .same) ∙ (c .before .before .before .before .before .before .before .before .before .before .before .before .before .before .w .given .1), (c .before .before .before .before .before .before .before .before .before .before .before .before .find2 .ensures s .same) ∙ (c .before .before .before .before .before .before .before .before .before .before .x .given .1), (c .before .before .before .before .before .before .before .before .find3 .ensures s .same) ∙ (c .before .before .before .before .before .before .y .given .1), (c .before .before .before .before .find4 .ensures s .same) ∙ (c .before .before .cause4 .given .1), (c .refused4 .ensures .0), (c .refused4 .ensures .1))
 
 exchange-at-requires : tie.Need-exchange-at-requires
 exchange-at-requires c κs = let p = c .before .before .before .before .before .before .before .before .before .before .before .before .before .before .before .before .before .before .before .pre in
@@ -87,7 +87,7 @@ same-length c = search needs
 returns-5 : tie.Need-returns-5
 unfolding exchange exchangeAt
 returns-5 c = let s = c .before .before .before .before .before .before .before .before .before .before .before .before .before .before .before .before .before .before .before .before .before .before .args .shared .now in
-    rw ((c .before .before .before .before .before .before .before .before .before .before .before .before .before .before .before .before .before .before .before .find .ensures s .same) ∙ (c .before .before .before .before .before .before .before .before .before .before .before .before .before .before .before .before .before .w .given .1), (c .before .before .before .before .before .before .before .before .before .before .before .before .before .before .before .find2 .ensures s .same) ∙ (c .before .before .before .before .before .before .before .before .before .before .before .before .before .x .given .1), (c .before .before .before .before .before .before .before .before .before .before .before .find3 .ensures s .same) ∙ (c .before .before .before .before .before .before .before .before .before .y .given .1), (c .before .before .before .before .before .before .before .find4 .ensures s .same) ∙ (c .before .before .before .before .before .z .given .1)) (c .before .before .exchange-at .ensures _)
+    rw ((c .before .before .before .before .before .before .before .before .before .before .before .before .before .before .before .before .before .before .before .find .ensures s .same) ∙ (c .before .before .before .before .before .before .before .before .before .before .before .before .before .before .before .before .before .w .given .1), (c .before .before .before .before .before .before .before .before .before .before .before .before .before .before .before .find2 .ensures s .same) ∙ (c .before .before .before .before .before .before .before .before .before .before .before .before .before .x .given .1), (c .before .before .before .before .before .before .before .before .before .before .before .find3 .ensures s .same) ∙ (c .before .before .before .before .before .before .before .before .before .y .given .1), (c .before .before .before .before .before .before .before .find4 .ensures s .same) ∙ (c .before .before .before .before .before .z .given .1)) (c .before .before .exchange-at .ensures)
 
 pub exchange-four-spec : {M : Type 1} → statement M
 exchange-four-spec =

@@ -31,6 +31,18 @@ array-read-t27 c = search needs
 array-read-t31 : tie.Need-array-read-t31
 array-read-t31 c = search needs
 
+array-read-t34 : tie.Need-array-read-t34
+array-read-t34 c = search needs
+
+array-read-t37 : tie.Need-array-read-t37
+array-read-t37 c = search needs
+
+array-read-t40 : tie.Need-array-read-t40
+array-read-t40 c = search needs
+
+array-read-t43 : tie.Need-array-read-t43
+array-read-t43 c = search needs
+
 returns : tie.Need-returns
 unfolding headOf
 returns c = refl
@@ -48,4 +60,8 @@ unpack-spec =
     array-read-t24
     array-read-t27
     array-read-t31
+    array-read-t34
+    array-read-t37
+    array-read-t40
+    array-read-t43
     returns)

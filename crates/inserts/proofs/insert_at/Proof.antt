@@ -16,7 +16,7 @@ splice-requires : tie.Need-splice-requires
 splice-requires c κs = let p = c .before .before .before .before .before .before .before .pre .0 in let s = given _ (p .safe .elems .pool) (c .before .before .before .before .before .before .before .pre .1) in rw (c .before .before .before .slot .ensures) (search needs)
 
 get-requires : tie.Need-get-requires
-get-requires c κs = search needs
+get-requires c κs = let p = c .before .before .before .before .before .before .before .before .before .before .before .pre .0 in search needs
 
 get-requires-2 : tie.Need-get-requires-2
 get-requires-2 c κs = let p = c .before .before .before .before .before .before .before .before .before .before .before .before .before .pre .0 in rw (c .before .before .before .before .before .splice .ensures .0) (search needs)

@@ -7,8 +7,9 @@ use Prim.Native.Nat.{ℕ, _*_}
 use native.Mathlib.Omega.{arith}
 use native.Mathlib.Decide.{ℕ-discrete}
 use Rattle.rules.specs.declared.Key.{Key}
+use Rattle.rules.specs.declared.Memory.{Memory}
 use Rattle.rules.specs.Notation.{if_then_else_, _==_, _<?_}
-use Rattle.rules.specs.Tables.{sized, frameWidth, classOf, State, withShared, sizeAt, isSealed}
+use Rattle.rules.specs.Tables.{sized, frameWidth, blank, classOf, State, withUndo, withShared, sizeAt, isSealed}
 use Rattle.rules.specs.Refusals.{Ruling, refuse, accept, outcome, withLive}
 use Rattle.rules.specs.Reads
 use Rattle.rules.specs.Slots
@@ -19,11 +20,13 @@ use Rattle.rules.specs.Drains
 use Rattle.rules.specs.Drains.{isShort, keyWidth, recordWidth}
 use Rattle.rules.specs.Seals
 use Rattle.rules.specs.Seals.{sealWidth, sealed}
+use Rattle.rules.specs.Undo
+use Rattle.rules.specs.Undo.{Remembers}
 use Rattle.rules.specs.Exchange
 use Rattle.rules.specs.Exchange.{allDiffer, valued}
 use Rattle.rules.specs.Compress
 use Rattle.rules.specs.Compress.{pairWidth}
-use Rattle.rules.specs.Calls.{Call, lenSurject, inSameSurject, getElement, getShared, getSize, getTotal, lookup, setElement, setShared, check, newRun, insert, union, remove, removeShared, list, drain, seal, drainAll, clear, exchange, compress, compressWith, ruling, Ready}
+use Rattle.rules.specs.Calls.{Call, lenSurject, inSameSurject, getElement, getShared, getSize, getTotal, lookup, setElement, setShared, check, newRun, insert, union, remove, removeShared, list, drain, seal, drainAll, clear, undo, exchange, compress, compressWith, ruling, Ready}
 use Rattle.rules.specs.Renaming.{Compresses, canonical, kept}
 use Rattle.rules.proofs.laws.Columns.{cell-zeros, cols, upd-same, upd-other}
 use Rattle.rules.proofs.laws.Working.{View, view}
@@ -34,6 +37,7 @@ use Rattle.rules.proofs.laws.Sealed.{sealV, sealed-view}
 use Rattle.rules.proofs.laws.Rulings.{live-at, by-test, by-key, by-keys}
 use Rattle.rules.proofs.laws.Tests.{eq-is, is-not}
 use Rattle.rules.proofs.laws.Steady.{markAt, unmarked, Fewer, fewer-none, Steady, steady-same, removed-fewer, ringRemoved-fewer, drained-fewer, begun-steady, inserted-steady, joined-steady}
+use Rattle.rules.proofs.laws.Undone.{traced-memory, back-steady}
 
 -- a frame of a sealed run that stays has its mark, and those of its run were of its run
 pub record Closed (v v′ : View) : Type 0 where
@@ -54,6 +58,10 @@ fewer-closed v v′ F = record {
 
 pub closed-same : (v v′ : View) → v′ .gen ≡ v .gen → v′ .class ≡ v .class → v′ .mark ≡ v .mark → Closed v v′
 closed-same v v′ g c m = steady-closed v v′ (steady-same v v′ g c m)
+
+-- what the head remembers is no part of it
+closed-memory : (v : View) (st : State) (m : Memory) → Closed v (view st) → Closed v (view (withUndo st m))
+closed-memory v st m C = record { mark = C .mark; joins = C .joins }
 
 -- nothing is left
 closed-empty : (v : View) (elems shared g : ℕ) → Closed v (view (empty elems shared g))
@@ -78,7 +86,7 @@ pub closed-outcome : (st : State) (lent : List ℕ) (r : Ruling) → Closes st r
 closed-outcome st lent (refuse r) c = closed-same (view st) (view st) refl refl refl
 closed-outcome st lent (accept values over st′ places) c = c
 
-module _ (st : State) (R : Ready st) where
+module _ (st : State) (R : Ready st) (M : Remembers st) where
   either : (b : Bool) (p q : Ruling) → (b ≡ true → Closes st p) → (b ≡ false → Closes st q) → Closes st (if b then p else q)
   either = by-test (Closes st)
 
@@ -99,7 +107,7 @@ module _ (st : State) (R : Ready st) where
   set-closed x payload h = let e = elementSet-view st R x payload h in closed-same (view st) (view (elementSet st x payload)) (ap (λ (v : View). v .gen) e) (ap (λ (v : View). v .class) e) (ap (λ (v : View). v .mark) e)
 
   pub closes : (lent : List ℕ) (c : Call) → (Compresses c → outcome st lent (ruling st lent c) .said .number ≢ 0) → Closes st (ruling st lent c)
-  unfolding Reads.lenSurject Reads.inSameSurject Reads.getElement Reads.getShared Reads.getSize Reads.getTotal Reads.lookup Reads.setElement Reads.setShared Runs.newRun Runs.insert Runs.keeping Runs.union Runs.remove Drains.removeShared Drains.list Drains.drain Drains.drainAll Drains.clear Drains.cleared Seals.seal Exchange.exchange Compress.compress Compress.compressWith
+  unfolding Reads.lenSurject Reads.inSameSurject Reads.getElement Reads.getShared Reads.getSize Reads.getTotal Reads.lookup Reads.setElement Reads.setShared Runs.newRun Runs.insert Runs.keeping Runs.union Runs.remove Drains.removeShared Drains.list Drains.drain Drains.drainAll Drains.clear Drains.cleared Seals.seal Undo.undo Exchange.exchange Compress.compress Compress.compressWith
   closes lent (lenSurject k) n = on-live k _ (λ h. same)
   closes lent (inSameSurject j k) n = on-live j _ (λ h. on-live k _ (λ l. same))
   closes lent (getElement k) n = on-live k _ (λ h. same)
@@ -107,7 +115,7 @@ module _ (st : State) (R : Ready st) where
   closes lent (getShared k) n = on-live k _ (λ h. same)
   closes lent (getSize k) n = on-live k _ (λ h. same)
   closes lent (getTotal k) n = on-live k _ (λ h. same)
-  closes lent (setElement k payload) n = on-live k _ (λ h. set-closed (k .slot) payload h)
+  closes lent (setElement k payload) n = on-live k _ (λ h. closed-memory (view st) _ blank (set-closed (k .slot) payload h))
   closes lent (setShared k value) n = on-live k _ (λ h. closed-same (view st) _ refl refl (search cols))
   closes lent check n = same
   closes lent (newRun payload value size) n =
@@ -123,8 +131,8 @@ module _ (st : State) (R : Ready st) where
       let apart = is-not (view st .class x ≡ view st .class y) (view st .class x == view st .class y) (eq-is (view st .class x) (view st .class y)) e in
       either (isSealed st x) _ _ (λ s. tt) (λ sx. either (isSealed st y) _ _ (λ s. tt) (λ sy.
       either (sizeAt st x <? sizeAt st y) _ _
-      (λ f. steady _ (joined-steady st R y x l h (λ q. apart (sym q)) (unmarked st R y sy) (unmarked st R x sx)))
-      (λ f. steady _ (joined-steady st R x y h l apart (unmarked st R x sx) (unmarked st R y sy))))))))
+      (λ f. closed-memory (view st) (Runs.joined st y x) _ (steady _ (joined-steady st R y x l h (λ q. apart (sym q)) (unmarked st R y sy) (unmarked st R x sx))))
+      (λ f. closed-memory (view st) (Runs.joined st x y) _ (steady _ (joined-steady st R x y h l apart (unmarked st R x sx) (unmarked st R y sy)))))))))
   closes lent (remove k) n = on-live k _ (λ h. fewer _ (removed-fewer st R (k .slot) h))
   closes lent (removeShared k) n = on-live k _ (λ h. fewer _ (ringRemoved-fewer st R (k .slot) h))
   closes lent (list k) n = on-live k _ (λ h. either (isShort lent (sizeAt st (k .slot)) keyWidth) _ _ (λ e. tt) (λ e. same))
@@ -132,10 +140,13 @@ module _ (st : State) (R : Ready st) where
   closes lent (seal k) n = on-live k _ (λ h. either (isSealed st (k .slot)) _ _ (λ s. tt) (λ s. either (isShort lent (sizeAt st (k .slot)) sealWidth) _ _ (λ e. tt) (λ e. seal-closed st R (view st .class (k .slot)) (working st R .class-live (k .slot) h))))
   closes lent drainAll n = either (isShort lent (st .head .elems .live) recordWidth) _ _ (λ e. tt) (λ e. closed-empty (view st) _ _ _)
   closes lent clear n = closed-empty (view st) _ _ _
+  closes lent undo n =
+      let k = st .head .undo .kept in
+      either (k == 0) _ _ (λ e. tt) (λ e. steady _ (back-steady st R (traced-memory st R M (is-not (k ≡ 0) (k == 0) (eq-is k 0) e))))
   closes lent (exchange keys values) n =
       by-keys (Closes st) (λ r. tt) st keys _ (λ xs a.
       let cs = map (classOf (st .elems)) xs in
-      either (allDiffer cs) _ _ (λ e. closed-same (view st) (view (withShared st (valued (st .shared) cs values))) refl refl (valued-mark (st .shared) cs values)) (λ e. tt))
+      either (allDiffer cs) _ _ (λ e. closed-memory (view st) _ blank (closed-same (view st) (view (withShared st (valued (st .shared) cs values))) refl refl (valued-mark (st .shared) cs values))) (λ e. tt))
   closes lent (compress reset) n =
       by-test (λ r. outcome st lent r .said .number ≢ 0 → Closes st r) (isShort lent (st .head .elems .capacity) frameWidth) _ _ (λ e m. tt) (λ e m. absurd (m refl)) (n (canonical reset))
   closes lent (compressWith reset) n =

@@ -8,7 +8,7 @@ use native.Mathlib.Omega.{arith}
 use lib.ListN.{length}
 use Rattle.rules.specs.declared.Key.{Key}
 use Rattle.rules.specs.declared.Refusal.{Refusal}
-use Rattle.rules.specs.declared.Refusal.the-variants.{Shape, Unsound, Dead, SameClass, NoElement, NoShared, Short, Malformed, Sealed}
+use Rattle.rules.specs.declared.Refusal.the-variants.{Shape, Unsound, Dead, SameClass, NoElement, NoShared, Short, Malformed, Sealed, Nothing}
 use Rattle.rules.specs.Notation.{_==_, _<?_}
 use Rattle.rules.specs.Tables.{classOf, State, sizeAt, isSealed}
 use Rattle.rules.specs.Refusals.{Ruling, refuse, Outcome, outcome, numberOf}
@@ -27,28 +27,36 @@ use Rattle.rules.proofs.laws.Rulings.{by-test, by-key}
 use Rattle.rules.proofs.laws.Follows.{follows}
 use Rattle.rules.proofs.laws.Histories.Cleared.{good-start, good-fresh}
 use Rattle.rules.proofs.laws.EveryCall.{call-follows}
+use Rattle.rules.proofs.laws.Recalls.{Recalls, remembers, call-recalls, start-recalls, fresh-recalls}
 use Rattle.rules.proofs.laws.UnionFrame.{third-frames, third-headers, rewrites-run}
 
 -- at the host's door a good state is met by the call's own rule
-pub at-door : {st : State} {h : History} → Good st h → (lent : List ℕ) (c : Call) (o : Outcome) → AtDoor st lent c o → o ≡ step st lent c
-at-door {st} G lent c o d = Door.passes st lent c o d (G .ready .shape) (G .ready .sound)
+pub at-door : {st : State} {h : History} → Good st h → Recalls st h → (lent : List ℕ) (c : Call) (o : Outcome) → AtDoor st lent c o → o ≡ step st lent c
+at-door {st} {h} G M lent c o d = Door.passes st lent c o d (G .ready .shape) (G .ready .sound, remembers st h M)
 
-pub good-call : {st : State} {h : History} → Good st h → (lent : List ℕ) (c : Call) (o : Outcome) → AtDoor st lent c o → Good (o .state) (noted h c (o .said))
-good-call {st} {h} G lent c o d = subst (λ (q : Outcome). Good (q .state) (noted h c (q .said))) (sym (at-door G lent c o d)) (follows st lent h c _ G (call-follows st lent h G c))
+pub good-call : {st : State} {h : History} → Good st h → Recalls st h → (lent : List ℕ) (c : Call) (o : Outcome) → AtDoor st lent c o → Good (o .state) (noted h c (o .said)) × Recalls (o .state) (noted h c (o .said))
+good-call {st} {h} G M lent c o d = subst (λ (q : Outcome). Good (q .state) (noted h c (q .said)) × Recalls (q .state) (noted h c (q .said))) (sym (at-door G M lent c o d))
+    (follows st lent h c _ G (call-follows st lent h G M c), call-recalls st lent h G M c)
 
--- whatever the calls were, the state is ready and holds the history
+-- whatever the calls were, the state is ready, holds the history, and can be taken back to it
+after-both : {st : State} {h : History} → After st h → Good st h × Recalls st h
+after-both (start st elems shared e) = (good-start st elems shared e, start-recalls st elems shared e)
+after-both (fresh {st = st} {h = h} a elems shared) = let r = after-both a in (good-fresh st elems shared h (r .0), fresh-recalls st elems shared h (r .1))
+after-both (call a lent c o d) = let r = after-both a in good-call (r .0) (r .1) lent c o d
+
 pub after-good : {st : State} {h : History} → After st h → Good st h
-after-good (start st elems shared e) = good-start st elems shared e
-after-good (fresh {st = st} {h = h} a elems shared) = good-fresh st elems shared h (after-good a)
-after-good (call a lent c o d) = good-call (after-good a) lent c o d
+after-good a = after-both a .0
+
+pub after-recalls : {st : State} {h : History} → After st h → Recalls st h
+after-recalls a = after-both a .1
 
 -- and any call can be the next one, with its own rule's outcome
 pub goes-on : {st : State} {h : History} → After st h → (lent : List ℕ) (c : Call) → AtDoor st lent c (step st lent c)
-goes-on {st} a lent c = passed st lent c (step st lent c) (after-good a .ready) refl
+goes-on {st} {h} a lent c = passed st lent c (step st lent c) (after-good a .ready, remembers st h (after-recalls a)) refl
 
 -- no call of such a sequence is refused 1 or 2
-passes : (st : State) (h : History) → Good st h → (lent : List ℕ) (c : Call) (o : Outcome) → AtDoor st lent c o → (o .said .number ≢ 1) × (o .said .number ≢ 2)
-passes st h G lent c o d = ((λ e. true≢false (sym (G .ready .shape) ∙ exactly-1 st lent c o d .0 e)), λ e. exactly-2 st lent c o d .0 e .1 (G .ready .sound))
+passes : (st : State) (h : History) → Good st h → Recalls st h → (lent : List ℕ) (c : Call) (o : Outcome) → AtDoor st lent c o → (o .said .number ≢ 1) × (o .said .number ≢ 2)
+passes st h G M lent c o d = ((λ e. true≢false (sym (G .ready .shape) ∙ exactly-1 st lent c o d .0 e)), λ e. exactly-2 st lent c o d .0 e .1 (G .ready .sound, remembers st h M))
 
 pub not-accepted : (r : Refusal) → numberOf r ≢ 0
 not-accepted Shape = omega arith
@@ -60,6 +68,7 @@ not-accepted NoShared = omega arith
 not-accepted Short = omega arith
 not-accepted Malformed = omega arith
 not-accepted Sealed = omega arith
+not-accepted Nothing = omega arith
 
 module _ (st : State) (h : History) (G : Good st h) (j k : Key) (lent : List ℕ) where
   -- what is claimed of an accepted union
@@ -116,9 +125,9 @@ module _ (st : State) (h : History) (G : Good st h) (j k : Key) (lent : List ℕ
 
 pub demand-3 : Demand3
 demand-3 = record {
-  passes = λ st h a. passes st h (after-good a);
+  passes = λ st h a. passes st h (after-good a) (after-recalls a);
   rings = λ st h a. agrees st h (after-good a);
   unions = λ st h a lent j k o d e.
-      let q = at-door (after-good a) lent (union j k) o d in
+      let q = at-door (after-good a) (after-recalls a) lent (union j k) o d in
       subst (λ (p : Outcome). Union st h j k p) (sym q) (union-claimed st h (after-good a) j k lent (sym (ap (λ (p : Outcome). p .said .number) q) ∙ e));
 }

@@ -5,10 +5,11 @@ use mathlib.Core.List.{List, [], map}
 use Prim.Native.Nat.{ℕ}
 use Rattle.rules.specs.declared.Key.{Key}
 use Rattle.rules.specs.Notation.{_==_, _<?_}
-use Rattle.rules.specs.Tables.{frameWidth, classOf, State, sizeAt, isSealed}
+use Rattle.rules.specs.Tables.{frameWidth, classOf, State, sizeAt, isSealed, blank}
 use Rattle.rules.specs.Reads
 use Rattle.rules.specs.Slots.{isFull}
 use Rattle.rules.specs.Runs
+use Rattle.rules.specs.Undo
 use Rattle.rules.specs.Drains
 use Rattle.rules.specs.Drains.{isShort, keyWidth, recordWidth}
 use Rattle.rules.specs.Seals
@@ -17,7 +18,7 @@ use Rattle.rules.specs.Exchange
 use Rattle.rules.specs.Exchange.{allDiffer}
 use Rattle.rules.specs.Compress
 use Rattle.rules.specs.Compress.{pairWidth}
-use Rattle.rules.specs.Calls.{Call, lenSurject, inSameSurject, getElement, getShared, getSize, getTotal, lookup, setElement, setShared, check, newRun, insert, union, remove, removeShared, list, drain, seal, drainAll, clear, exchange, compress, compressWith, ruling}
+use Rattle.rules.specs.Calls.{Call, lenSurject, inSameSurject, getElement, getShared, getSize, getTotal, lookup, setElement, setShared, check, newRun, insert, union, remove, removeShared, list, drain, seal, drainAll, clear, undo, exchange, compress, compressWith, ruling}
 use Rattle.rules.specs.History.{History}
 use Rattle.rules.proofs.laws.Lists.{all-map, all-image}
 use Rattle.rules.proofs.laws.Tests.{eq-is, is-not}
@@ -25,6 +26,8 @@ use Rattle.rules.proofs.laws.Working.{view}
 use Rattle.rules.proofs.laws.Safe.{working}
 use Rattle.rules.proofs.laws.Steady.{unmarked}
 use Rattle.rules.proofs.laws.Good.{Good, live-of}
+use Rattle.rules.proofs.laws.Remembering.{good-undo}
+use Rattle.rules.proofs.laws.Recalls.{Recalls, good-undone}
 use Rattle.rules.proofs.laws.Rulings.{by-keys}
 use Rattle.rules.proofs.laws.Follows.{Follows, refused, done, either, on-live}
 use Rattle.rules.proofs.laws.Histories.NewRun.{good-newRun}
@@ -39,7 +42,7 @@ use Rattle.rules.proofs.laws.Histories.Seal.{good-seal}
 use Rattle.rules.proofs.laws.Histories.Renamed.{good-compress}
 use Rattle.rules.proofs.laws.Histories.Ranked.{good-with}
 
-module _ (st : State) (lent : List ℕ) (h : History) (G : Good st h) where
+module _ (st : State) (lent : List ℕ) (h : History) (G : Good st h) (M : Recalls st h) where
   union-follows : (j k : Key) → Follows h (union j k) (Runs.union st j k)
   unfolding Runs.union Runs.keeping
   union-follows j k =
@@ -50,8 +53,8 @@ module _ (st : State) (lent : List ℕ) (h : History) (G : Good st h) where
       let mj = unmarked st (G .ready) (j .slot) sj in
       let mk = unmarked st (G .ready) (k .slot) sk in
       either h (union j k) (sizeAt st (j .slot) <? sizeAt st (k .slot)) _ _
-      (λ f. done (good-second st h G j k (live-of st j lj) (live-of st k lk) n mj mk []))
-      (λ f. done (good-first st h G j k (live-of st j lj) (live-of st k lk) n mj mk [])))))))
+      (λ f. done (good-undo _ _ (good-second st h G j k (live-of st j lj) (live-of st k lk) n mj mk [])))
+      (λ f. done (good-undo _ _ (good-first st h G j k (live-of st j lj) (live-of st k lk) n mj mk []))))))))
 
   exchange-follows : (keys : List Key) (values : List ℕ) → Follows h (exchange keys values) (Exchange.exchange st keys values)
   unfolding Exchange.exchange
@@ -59,11 +62,11 @@ module _ (st : State) (lent : List ℕ) (h : History) (G : Good st h) where
       by-keys (Follows h (exchange keys values)) (λ r. refused) st keys _ (λ xs a.
       let cs = map (classOf (st .elems)) xs in
       either h (exchange keys values) (allDiffer cs) _ _
-      (λ e. done (good-exchange st h G cs values (all-image (classOf (st .elems)) (λ c. view st .count c ≢ 0) xs (all-map (λ x l. working st (G .ready) .class-live x l) xs a))))
+      (λ e. done (good-undo _ blank (good-exchange st h G cs values (all-image (classOf (st .elems)) (λ c. view st .count c ≢ 0) xs (all-map (λ x l. working st (G .ready) .class-live x l) xs a)))))
       (λ e. refused))
 
   pub call-follows : (c : Call) → Follows h c (ruling st lent c)
-  unfolding Reads.lenSurject Reads.inSameSurject Reads.getElement Reads.getShared Reads.getSize Reads.getTotal Reads.lookup Reads.setElement Reads.setShared Runs.newRun Runs.insert Runs.remove Drains.removeShared Drains.list Drains.drain Drains.drainAll Drains.clear Seals.seal Compress.compress Compress.compressWith
+  unfolding Reads.lenSurject Reads.inSameSurject Reads.getElement Reads.getShared Reads.getSize Reads.getTotal Reads.lookup Reads.setElement Reads.setShared Runs.newRun Runs.insert Runs.remove Drains.removeShared Drains.list Drains.drain Drains.drainAll Drains.clear Seals.seal Compress.compress Compress.compressWith Undo.undo
   call-follows (lenSurject k) = on-live h (lenSurject k) st k _ (λ l. done G)
   call-follows (inSameSurject j k) = on-live h (inSameSurject j k) st j _ (λ i. on-live h (inSameSurject j k) st k _ (λ l. done G))
   call-follows (getElement k) = on-live h (getElement k) st k _ (λ l. done G)
@@ -71,8 +74,8 @@ module _ (st : State) (lent : List ℕ) (h : History) (G : Good st h) where
   call-follows (getShared k) = on-live h (getShared k) st k _ (λ l. done G)
   call-follows (getSize k) = on-live h (getSize k) st k _ (λ l. done G)
   call-follows (getTotal k) = on-live h (getTotal k) st k _ (λ l. done G)
-  call-follows (setElement k payload) = on-live h (setElement k payload) st k _ (λ l. done (good-setElement st h G (k .slot) payload (live-of st k l .live)))
-  call-follows (setShared k value) = on-live h (setShared k value) st k _ (λ l. done (good-setShared st h G (classOf (st .elems) (k .slot)) value (working st (G .ready) .class-live (k .slot) (live-of st k l .live))))
+  call-follows (setElement k payload) = on-live h (setElement k payload) st k _ (λ l. done (good-undo _ blank (good-setElement st h G (k .slot) payload (live-of st k l .live))))
+  call-follows (setShared k value) = on-live h (setShared k value) st k _ (λ l. done (good-undo _ blank (good-setShared st h G (classOf (st .elems) (k .slot)) value (working st (G .ready) .class-live (k .slot) (live-of st k l .live)))))
   call-follows check = done G
   call-follows (newRun payload value size) =
       either h (newRun payload value size) (isFull (st .head .shared)) _ _ (λ e. refused) (λ e.
@@ -90,6 +93,7 @@ module _ (st : State) (lent : List ℕ) (h : History) (G : Good st h) where
       either h (seal k) (isShort lent (sizeAt st (k .slot)) sealWidth) _ _ (λ e. refused) (λ e. done (good-seal st h G k (live-of st k l) []))))
   call-follows drainAll = either h drainAll (isShort lent (st .head .elems .live) recordWidth) _ _ (λ e. refused) (λ e. done (good-drainAll st h G []))
   call-follows clear = done (good-clear st h G [])
+  call-follows undo = either h undo (st .head .undo .kept == 0) _ _ (λ e. refused) (λ e. done (good-undone st h M (is-not (st .head .undo .kept ≡ 0) (st .head .undo .kept == 0) (eq-is (st .head .undo .kept) 0) e) []))
   call-follows (exchange keys values) = exchange-follows keys values
   call-follows (compress reset) = either h (compress reset) (isShort lent (st .head .elems .capacity) frameWidth) _ _ (λ e. refused) (λ e. done (good-compress st h G reset []))
   call-follows (compressWith reset) = either h (compressWith reset) (isShort lent (st .head .elems .live) pairWidth) _ _ (λ e. refused) (λ e. done (good-with st h G reset []))

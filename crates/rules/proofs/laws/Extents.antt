@@ -20,11 +20,12 @@ use Rattle.rules.specs.Drains
 use Rattle.rules.specs.Drains.{isShort, keyWidth, recordWidth, freeRing, drained}
 use Rattle.rules.specs.Seals
 use Rattle.rules.specs.Seals.{sealWidth}
+use Rattle.rules.specs.Undo
 use Rattle.rules.specs.Exchange
 use Rattle.rules.specs.Exchange.{allDiffer}
 use Rattle.rules.specs.Compress
 use Rattle.rules.specs.Compress.{pairWidth}
-use Rattle.rules.specs.Calls.{Call, lenSurject, inSameSurject, getElement, getShared, getSize, getTotal, lookup, setElement, setShared, check, newRun, insert, union, remove, removeShared, list, drain, seal, drainAll, clear, exchange, compress, compressWith, ruling, step}
+use Rattle.rules.specs.Calls.{Call, lenSurject, inSameSurject, getElement, getShared, getSize, getTotal, lookup, setElement, setShared, check, newRun, insert, union, remove, removeShared, list, drain, seal, drainAll, clear, undo, exchange, compress, compressWith, ruling, step}
 use Rattle.rules.proofs.laws.Rulings.{by-test, by-key, by-keys}
 
 -- Rules 3: after taking a slot the extent is the higher of what it was and the slot taken
@@ -103,7 +104,7 @@ module _ (st : State) (lent : List ℕ) where
   on-live k rule h = by-key (Keeps st) (λ r. tt) st k rule (λ l. h)
 
   keeps : (c : Call) → (Anew c → ⊥) → Keeps st (ruling st lent c)
-  unfolding Reads.lenSurject Reads.inSameSurject Reads.getElement Reads.getShared Reads.getSize Reads.getTotal Reads.lookup Reads.setElement Reads.setShared Runs.newRun Runs.begun Runs.insert Runs.inserted Runs.keeping Runs.joined Runs.union Runs.remove Drains.removeShared Drains.list Drains.drain Seals.seal Seals.sealed Exchange.exchange freeShared freed raise
+  unfolding Reads.lenSurject Reads.inSameSurject Reads.getElement Reads.getShared Reads.getSize Reads.getTotal Reads.lookup Reads.setElement Reads.setShared Runs.newRun Runs.begun Runs.insert Runs.inserted Runs.keeping Runs.joined Runs.union Runs.remove Drains.removeShared Drains.list Drains.drain Seals.seal Seals.sealed Exchange.exchange Undo.undo Undo.takenBack freeShared freed raise
   keeps (lenSurject k) n = on-live k _ (same st)
   keeps (inSameSurject j k) n = on-live j _ (on-live k _ (same st))
   keeps (getElement k) n = on-live k _ (same st)
@@ -132,6 +133,7 @@ module _ (st : State) (lent : List ℕ) where
       on-live k _ (either (isSealed st (k .slot)) _ _ tt (either (isShort lent (sizeAt st (k .slot)) sealWidth) _ _ tt (record { elems = omega arith; shared = omega arith })))
   keeps drainAll n = absurd (n by-drainAll)
   keeps clear n = absurd (n by-clear)
+  keeps undo n = either (st .head .undo .kept == 0) _ _ tt (record { elems = omega arith; shared = taken-least (sharedSide st) })
   keeps (exchange keys values) n =
       by-keys (Keeps st) (λ r. tt) st keys _ (λ xs a. either (allDiffer (map (classOf (st .elems)) xs)) _ _ (record { elems = omega arith; shared = omega arith }) tt)
   keeps (compress reset) n = absurd (n by-compress)

@@ -48,9 +48,9 @@ pub good-same : {st : State} {h : History} (rs : List (List Key)) → Same (h .r
 good-same {st} {h} rs s G = record { ready = G .ready; rings = rep-same (view st) s (G .rings); generation = G .generation; seals = G .seals; sizes = G .sizes; counts = ap (λ (n : ℕ). n + h .taken) (sym (same-length s)) ∙ G .counts }
 
 -- which keys are sealed, the sizes, what is taken out, and the generation, told in another way
-pub good-told : {st : State} {rs : List (List Key)} {sealed sealed′ : List Key} {sizes sizes′ : List Given} {put taken taken′ generation generation′ : ℕ} → sealed ≡ sealed′ → sizes ≡ sizes′ → taken ≡ taken′ → generation ≡ generation′
-    → Good st (record { runs = rs; sealed = sealed; sizes = sizes; put = put; taken = taken; generation = generation }) → Good st (record { runs = rs; sealed = sealed′; sizes = sizes′; put = put; taken = taken′; generation = generation′ })
-good-told {st} {rs} {put = put} d z e f G = subst (λ (h : History). Good st h) (λ i. record { runs = rs; sealed = d i; sizes = z i; put = put; taken = e i; generation = f i }) G
+pub good-told : {st : State} {rs unjoined : List (List Key)} {sealed sealed′ : List Key} {sizes sizes′ : List Given} {put taken taken′ generation generation′ : ℕ} → sealed ≡ sealed′ → sizes ≡ sizes′ → taken ≡ taken′ → generation ≡ generation′
+    → Good st (record { runs = rs; unjoined = unjoined; sealed = sealed; sizes = sizes; put = put; taken = taken; generation = generation }) → Good st (record { runs = rs; unjoined = unjoined; sealed = sealed′; sizes = sizes′; put = put; taken = taken′; generation = generation′ })
+good-told {st} {rs} {unjoined} {put = put} d z e f G = subst (λ (h : History). Good st h) (λ i. record { runs = rs; unjoined = unjoined; sealed = d i; sizes = z i; put = put; taken = e i; generation = f i }) G
 
 -- a live key, as the book says it and as the laws do
 module _ (st : State) where

@@ -5,7 +5,7 @@ use Prim.Native.Nat.{ℕ, _+_, _≤_}
 use native.Mathlib.Omega.{arith}
 use native.Mathlib.Decide.{ℕ-discrete}
 use Rattle.rules.specs.declared.Pool.{Pool}
-use Rattle.rules.specs.Tables.{lastGeneration, mostBytes, State, elemSide}
+use Rattle.rules.specs.Tables.{lastGeneration, mostBytes, State, elemSide, blank}
 use Rattle.rules.specs.Slots.{slotOf, taken}
 use Rattle.rules.specs.Runs.{inserted}
 use Rattle.rules.specs.Calls.{Ready}
@@ -22,7 +22,7 @@ use Rattle.rules.proofs.laws.Links.{live-ne, Spliced, links-insert, rin
 -- the new frame has the slot `i`, and the pool is then `q`
 unfoldable pub insertV : View → (at payload size slot : ℕ) → Pool → View
 insertV v x t z i q = record {
-  head = record { elems = q; shared = v .head .shared; generation = v .head .generation };
+  head = record { elems = q; shared = v .head .shared; generation = v .head .generation; undo = blank };
   gen = upd (v .gen) i (v .head .generation);
   pay = upd (v .pay) i t;
   class = upd (v .class) i (v .class x);

@@ -6,7 +6,7 @@ use Prim.Native.Nat.{ℕ, _+_, _≤_}
 use native.Mathlib.Omega.{arith}
 use native.Mathlib.Decide.{ℕ-discrete}
 use Rattle.rules.specs.declared.Pool.{Pool}
-use Rattle.rules.specs.Tables.{lastGeneration, mostBytes, State, elemSide, sharedSide}
+use Rattle.rules.specs.Tables.{lastGeneration, mostBytes, State, elemSide, sharedSide, blank}
 use Rattle.rules.specs.Slots.{slotOf, taken}
 use Rattle.rules.specs.Runs.{begun}
 use Rattle.rules.specs.Calls.{Ready}
@@ -24,7 +24,7 @@ use Rattle.rules.proofs.laws.Links.{live-ne, ring-frame}
 -- the frame has the slot `i`, the pool of elements is then `q`; the class has the slot `c`, the pool of classes is then `r`
 unfoldable pub newRunV : View → (payload value size i : ℕ) → Pool → ℕ → Pool → View
 newRunV v t w z i q c r = record {
-  head = record { elems = q; shared = r; generation = v .head .generation };
+  head = record { elems = q; shared = r; generation = v .head .generation; undo = blank };
   gen = upd (v .gen) i (v .head .generation);
   pay = upd (v .pay) i t;
   class = upd (v .class) i c;

@@ -182,7 +182,7 @@ module _ {p : Pool} {g n : ℕ → ℕ} where
     };
   }
 
-  popped : Pooled p g n → p .root ≢ 0 → Taken p g n (p .root) (record { capacity = p .capacity; extent = p .extent; root = n (p .root); live = p .live + 1 })
+  pub popped : Pooled p g n → p .root ≢ 0 → Taken p g n (p .root) (record { capacity = p .capacity; extent = p .extent; root = n (p .root); live = p .live + 1 })
   unfolding chain-frame
   popped P e =
       let c = pop e (P .chain) (P .whole) in

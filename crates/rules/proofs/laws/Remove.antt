@@ -7,7 +7,7 @@ use native.Mathlib.Omega.{arith}
 use native.Mathlib.Decide.{ℕ-discrete}
 use lib.ListN.{length}
 use Rattle.rules.specs.declared.Pool.{Pool}
-use Rattle.rules.specs.Tables.{lastGeneration, frameWidth, headerWidth, State, withElems}
+use Rattle.rules.specs.Tables.{lastGeneration, frameWidth, headerWidth, State, blank, withElems}
 use Rattle.rules.specs.Slots.{freed, freeSlot, freeElement, freeShared, raised, raise}
 use Rattle.rules.specs.Runs.{linked, unlinked, left, removed}
 use Rattle.rules.specs.Calls.{Ready}
@@ -27,7 +27,7 @@ use Rattle.rules.proofs.laws.Links.{live-ne, ring-frame, Excised, links
 -- the frame `x` goes; its class then has the count `k`, the next free slot `z` and the mark `m`, and the pool of classes is `r`
 unfoldable pub removeV : View → ℕ → (count value chain mark : ℕ → ℕ) → Pool → View
 removeV v x k w z m r = record {
-  head = record { elems = freed (v .head .elems) x; shared = r; generation = raised (v .head .generation) };
+  head = record { elems = freed (v .head .elems) x; shared = r; generation = raised (v .head .generation); undo = blank };
   gen = upd (v .gen) x 0;
   pay = upd (v .pay) x 0;
   class = upd (v .class) x 0;

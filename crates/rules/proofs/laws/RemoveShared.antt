@@ -5,7 +5,7 @@ use mathlib.Core.List.{List, _∷_}
 use Prim.Native.Nat.{ℕ, _-_, _≤_}
 use native.Mathlib.Omega.{arith}
 use native.Mathlib.Decide.{ℕ-discrete}
-use Rattle.rules.specs.Tables.{lastGeneration, classOf, State, sizeAt}
+use Rattle.rules.specs.Tables.{lastGeneration, classOf, State, blank, sizeAt}
 use Rattle.rules.specs.Slots.{freed, freeShared, raised, raise}
 use Rattle.rules.specs.Drains.{freeRing}
 use Rattle.rules.specs.Calls.{Ready}
@@ -25,7 +25,7 @@ use Rattle.rules.proofs.laws.Freed.{raiseV, raised-least, raised-most, 
 
 unfoldable pub removeSharedV : View → ℕ → List ℕ → View
 removeSharedV v c xs = record {
-  head = record { elems = freedAll xs (v .head .elems); shared = freed (v .head .shared) c; generation = raised (v .head .generation) };
+  head = record { elems = freedAll xs (v .head .elems); shared = freed (v .head .shared) c; generation = raised (v .head .generation); undo = blank };
   gen = wipe xs (v .gen);
   pay = wipe xs (v .pay);
   class = wipe xs (v .class);

@@ -2,7 +2,7 @@
 use mathlib.Core.Path.{_≡_, refl}
 use mathlib.Core.Logic.{_≢_}
 use Prim.Native.Nat.{ℕ}
-use Rattle.rules.specs.Tables.{headerWidth, headerAt, State}
+use Rattle.rules.specs.Tables.{blank, remembering, headerWidth, headerAt, State}
 use Rattle.rules.specs.Seals.{sealed}
 use Rattle.rules.specs.Calls.{Ready}
 use Rattle.rules.proofs.laws.Columns.{upd, cols, length-put}
@@ -14,7 +14,7 @@ use Rattle.rules.proofs.laws.Stored.{ready-still, live-stored}
 
 unfoldable pub sealV : View → (c : ℕ) → View
 sealV v c = record {
-  head = v .head;
+  head = remembering (v .head) blank;
   gen = v .gen;
   pay = v .pay;
   class = v .class;

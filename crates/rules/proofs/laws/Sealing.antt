@@ -49,7 +49,8 @@ use Rattle.rules.proofs.laws.Histories.Renumber.{rekeyed}
 use Rattle.rules.proofs.laws.Histories.Compress.{run-ring}
 use Rattle.rules.proofs.laws.Histories.Renamed.{mark-carried, named, all-live, Told, canonical-told}
 use Rattle.rules.proofs.laws.Histories.Ranked.{frames-by-slot, headers-by-slot, kept-told}
-use Rattle.rules.proofs.laws.DemandThree.{at-door, good-call, after-good, not-accepted}
+use Rattle.rules.proofs.laws.DemandThree.{at-door, good-call, after-good, not-accepted, after-recalls}
+use Rattle.rules.proofs.laws.Recalls.{Recalls, remembers, fresh-recalls}
 
 -- ---- some frames of sealed runs, and all frames of their runs
 record Whole (v : View) (ks : List Key) : Type 0 where
@@ -105,6 +106,7 @@ whole-renumbered v v′ m N W ks K = record {
 -- ---- over any calls
 record Held (st : State) (h : History) (most : ℕ) (ks : List Key) : Type 0 where
   good : Good st h
+  recalls : Recalls st h
   whole : Whole (view st) ks
   few : length ks ≤ most
 
@@ -117,21 +119,23 @@ keep-few test (k ∷ ks) = go (test k) (keep-few test ks)
     go false l = omega arith
 
 module _ (st : State) (h : History) (n : ℕ) (ks : List Key) (H : Held st h n ks) where
-  still : (st′ : State) (h′ : History) → Closed (view st) (view st′) → Good st′ h′ → Held st′ h′ n (stillIn (h′ .runs) ks)
-  still st′ h′ C G = record {
+  still : (st′ : State) (h′ : History) → Closed (view st) (view st′) → Good st′ h′ → Recalls st′ h′ → Held st′ h′ n (stillIn (h′ .runs) ks)
+  still st′ h′ C G M = record {
     good = G;
+    recalls = M;
     whole = whole-closed (view st) (view st′) C (h′ .runs) (G .rings) ks (H .whole);
     few = omega (arith, keep-few (λ k. holds k (flat (h′ .runs))) ks, H .few);
   }
 
   held-fresh : (elems shared : ℕ) → Held (freshStep st elems shared .state) (notedFresh h (freshStep st elems shared .said)) n (stillIn (notedFresh h (freshStep st elems shared .said) .runs) ks)
-  held-fresh elems shared = still _ _ (closed-outcome st [] (Slots.fresh st elems shared) (closes-fresh st elems shared)) (good-fresh st elems shared h (H .good))
+  held-fresh elems shared = still _ _ (closed-outcome st [] (Slots.fresh st elems shared) (closes-fresh st elems shared)) (good-fresh st elems shared h (H .good)) (fresh-recalls st elems shared h (H .recalls))
 
   held-call : (lent : List ℕ) (c : Call) (o : Outcome) → AtDoor st lent c o → (Compresses c → o .said .number ≢ 0) → Held (o .state) (noted h c (o .said)) n (stillIn (noted h c (o .said) .runs) ks)
   held-call lent c o d x =
-      let q = at-door (H .good) lent c o d in
-      let C = closed-outcome st lent (ruling st lent c) (closes st (H .good .ready) lent c (λ r. subst (λ (p : Outcome). p .said .number ≢ 0) q (x r))) in
-      still (o .state) (noted h c (o .said)) (subst (λ (p : Outcome). Closed (view st) (view (p .state))) (sym q) C) (good-call (H .good) lent c o d)
+      let q = at-door (H .good) (H .recalls) lent c o d in
+      let C = closed-outcome st lent (ruling st lent c) (closes st (H .good .ready) (remembers st h (H .recalls)) lent c (λ r. subst (λ (p : Outcome). p .said .number ≢ 0) q (x r))) in
+      let G = good-call (H .good) (H .recalls) lent c o d in
+      still (o .state) (noted h c (o .said)) (subst (λ (p : Outcome). Closed (view st) (view (p .state))) (sym q) C) (G .0) (G .1)
 
   -- a compression by any listing, whose new keys are those that `new` gives
   module _ (fs cs : List ℕ) (E : Listed (view st .gen) fs) (C : Listed (view st .count) cs) (reset : Bool) (new : Key → Key) (told : Told st h (H .good) fs cs E C reset new) where
@@ -157,9 +161,11 @@ module _ (st : State) (h : History) (n : ℕ) (ks : List Key) (H : Held st h n k
 
   held-compress : (lent : List ℕ) (c : Call) (r : Compresses c) (o : Outcome) → AtDoor st lent c o → o .said .number ≡ 0 → Held (o .state) (noted h c (o .said)) n (map (newKey h r) ks)
   held-compress lent c r o d e =
-      let q = at-door (H .good) lent c o d in
+      let q = at-door (H .good) (H .recalls) lent c o d in
+      let G = good-call (H .good) (H .recalls) lent c o d in
       record {
-        good = good-call (H .good) lent c o d;
+        good = G .0;
+        recalls = G .1;
         whole = subst (λ (p : Outcome). Whole (view (p .state)) (map (newKey h r) ks)) (sym q) (renames lent r (subst (λ (p : Outcome). p .said .number ≡ 0) q e));
         few = omega (arith, length-map ks (newKey h r), H .few);
       }
@@ -221,7 +227,7 @@ module _ (h : History) (k : Key) (st₀ : State) (h₀ : History) (n : ℕ) (H :
 module _ (st : State) (h : History) (G : Good st h) (lent : List ℕ) (k : Key) where
   -- what is claimed of an accepted seal
   abbrev claimed : Ruling → Type 0
-  claimed q = outcome st lent q .said .number ≡ 0 → Good (outcome st lent q .state) (noted h (seal k) (outcome st lent q .said)) → Sealed st h k (outcome st lent q)
+  claimed q = outcome st lent q .said .number ≡ 0 → Good (outcome st lent q .state) (noted h (seal k) (outcome st lent q .said)) → Recalls (outcome st lent q .state) (noted h (seal k) (outcome st lent q .said)) → Sealed st h k (outcome st lent q)
 
   refused : (q : Refusal) → claimed (refuse q)
   refused q e = absurd (not-accepted q e)
@@ -233,8 +239,8 @@ module _ (st : State) (h : History) (G : Good st h) (lent : List ℕ) (k : Key) 
       let l = live-of st k e in
       let n = size-from st h G k l in
       by-test claimed (isSealed st (k .slot)) _ _ (λ s. refused refusal.Sealed) (λ s.
-      by-test claimed (isShort lent (sizeAt st (k .slot)) sealWidth) _ _ (λ f. refused refusal.Short) (λ f z G′.
-      let H : Held (sealed st (view st .class (k .slot))) (sealing h k) (sizeAt st (k .slot)) (runOf k (h .runs)) = record { good = G′; whole = whole-sealed st h G lent k l; few = omega (arith, n) } in
+      by-test claimed (isShort lent (sizeAt st (k .slot)) sealWidth) _ _ (λ f. refused refusal.Short) (λ f z G′ M′.
+      let H : Held (sealed st (view st .class (k .slot))) (sealing h k) (sizeAt st (k .slot)) (runOf k (h .runs)) = record { good = G′; recalls = M′; whole = whole-sealed st h G lent k l; few = omega (arith, n) } in
       record {
         counted = sym n;
         written = wrote st h G lent k l;
@@ -246,7 +252,8 @@ module _ (st : State) (h : History) (G : Good st h) (lent : List ℕ) (k : Key) 
 pub sealing-holds : Sealing
 sealing-holds st h a lent k o d e =
     let G = after-good a in
-    let q = at-door G lent (seal k) o d in
-    let G′ = good-call G lent (seal k) o d in
+    let M = after-recalls a in
+    let q = at-door G M lent (seal k) o d in
+    let B = good-call G M lent (seal k) o d in
     subst (λ (p : Outcome). Sealed st h k p) (sym q)
-    (seal-claimed st h G lent k (subst (λ (p : Outcome). p .said .number ≡ 0) q e) (subst (λ (p : Outcome). Good (p .state) (noted h (seal k) (p .said))) q G′))
+    (seal-claimed st h G lent k (subst (λ (p : Outcome). p .said .number ≡ 0) q e) (subst (λ (p : Outcome). Good (p .state) (noted h (seal k) (p .said))) q (B .0)) (subst (λ (p : Outcome). Recalls (p .state) (noted h (seal k) (p .said))) q (B .1)))

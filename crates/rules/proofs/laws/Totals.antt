@@ -125,6 +125,10 @@ whole-list n g cl b c xs free d h w =
     listed s k (yes e) (no z) = w s z e
     listed s k (no e) z = absurd (k (share-other cl b c s e))
 
+-- each slot adds the same
+pub whole-same : (n : ℕ) (cl cl′ b : ℕ → ℕ) (c : ℕ) → ((s : ℕ) → share cl′ b c s ≡ share cl b c s) → whole n cl′ b c ≡ whole n cl b c
+whole-same n cl cl′ b c h = sum-ext (share cl′ b c) (share cl b c) (upTo n) (all-of (λ s. share cl′ b c s ≡ share cl b c s) (upTo n) (λ s m. h s))
+
 -- none has the class
 pub whole-none : (n : ℕ) (g cl b : ℕ → ℕ) (c : ℕ) → ((s : ℕ) → g s ≡ 0 → b s ≡ 0) → ((s : ℕ) → g s ≢ 0 → cl s ≢ c) → whole n cl b c ≡ 0
 whole-none n g cl b c free h = whole-list n g cl b c [] free tt tt (λ s l e. absurd (h s l e))

@@ -4,7 +4,7 @@ use mathlib.Core.Logic.{_≢_, _⊎_, inl, inr}
 use Prim.Native.Nat.{ℕ, _+_}
 use native.Mathlib.Omega.{arith}
 use native.Mathlib.Decide.{ℕ-discrete}
-use Rattle.rules.specs.Tables.{frameWidth, State, sizeAt}
+use Rattle.rules.specs.Tables.{frameWidth, State, blank, sizeAt}
 use Rattle.rules.specs.Slots.{freed, freeSlot, freeShared}
 use Rattle.rules.specs.Runs.{rewritten, joined}
 use Rattle.rules.specs.Calls.{Ready}
@@ -21,7 +21,7 @@ use Rattle.rules.proofs.laws.Links.{Which, one, two, neither, which, li
 
 unfoldable pub joinedV : View → ℕ → ℕ → View
 joinedV v a b = record {
-  head = record { elems = v .head .elems; shared = freed (v .head .shared) (v .class b); generation = v .head .generation };
+  head = record { elems = v .head .elems; shared = freed (v .head .shared) (v .class b); generation = v .head .generation; undo = blank };
   gen = v .gen;
   pay = v .pay;
   class = recolour (v .class b) (v .class a) (v .class);

@@ -6,7 +6,8 @@ use Prim.Native.Nat.{ℕ, zero, suc, _-_}
 use lib.ListN.{length}
 use native.Mathlib.Decide.{ℕ-discrete}
 use Rattle.rules.specs.declared.Pool.{Pool}
-use Rattle.rules.specs.Tables.{frameWidth, State, withPools}
+use Rattle.rules.specs.declared.Memory.{Memory}
+use Rattle.rules.specs.Tables.{frameWidth, State, blank}
 use Rattle.rules.specs.Slots.{freed, freeElement}
 use Rattle.rules.specs.Drains.{freeRing}
 use Rattle.rules.proofs.laws.Lists.{Walk, walk-frame, All, In, Out, NoDup, all-map, all-both}
@@ -70,10 +71,15 @@ unfolding freeRing
 freeRing-still zero st x = record { elems = refl; shared = refl; elems-long = refl; shared-long = refl }
 freeRing-still (suc n) st x = still-then (freeElement-still st x) (freeRing-still n (freeElement st x) (view st .next x))
 
+-- one that is freed drops what the head remembers
+abbrev pub unlessFreed : List ℕ → Memory → Memory
+unlessFreed [] m = m
+unlessFreed (x ∷ xs) m = unlessFreed xs blank
+
 -- the frames of a walk are freed
 unfoldable pub freeAllV : View → List ℕ → View
 freeAllV v xs = record {
-  head = withPools (v .head) (freedAll xs (v .head .elems)) (v .head .shared);
+  head = record { elems = freedAll xs (v .head .elems); shared = v .head .shared; generation = v .head .generation; undo = unlessFreed xs (v .head .undo) };
   gen = wipe xs (v .gen);
   pay = wipe xs (v .pay);
   class = wipe xs (v .class);

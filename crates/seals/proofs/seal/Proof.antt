@@ -52,6 +52,9 @@ get-requires-3 c κs = let l = on-live _ _ _ _ (c .before .before .before .befor
 put-requires : tie.Need-put-requires
 put-requires c κs = let l = on-live _ _ _ _ (c .before .before .before .before .before .before .before .before .before .before .before .before .before .before .before .before .before .before .before .before .before .pre) (c .before .before .before .before .before .before .before .before .before .before .before .before .before .before .before .before .before .find .ensures _) (c .before .before .before .before .before .before .before .before .before .before .before .before .before .before .before .x .given .1) in rw (c .before .before .before .before .before .before .before .before .before .before .get .ensures) (search needs)
 
+forget-requires : tie.Need-forget-requires
+forget-requires c κs = search needs
+
 same-length-3 : tie.Need-same-length-3
 same-length-3 c = search needs
 
@@ -59,7 +62,7 @@ same-length-4 : tie.Need-same-length-4
 same-length-4 c = search needs
 
 returns-4 : tie.Need-returns-4
-returns-4 c = rw (c .before .before .before .before .before .before .before .before .before .before .before .get2 .ensures, c .before .before .before .before .before .before .before .before .before .before .before .before .before .get .ensures) (seal-done _ _ _ _ (c .before .before .before .before .before .before .before .before .before .before .before .before .before .before .before .before .before .before .before .before .find .ensures _ .same ∙ c .before .before .before .before .before .before .before .before .before .before .before .before .before .before .before .before .before .before .x .given .1) _ _ _ (c .before .before .before .before .before .before .before .before .before .before .before .before .before .before .before .is-sealed .ensures ∙ c .before .before .before .before .before .before .before .before .before .before .before .before .before .before .if1 .left) (rw (← c .before .before .before .before .before .before .before .before .before .before .before .before .before .get .ensures, ← c .before .before .before .before .before .before .before .before .before .before .before .get2 .ensures) (c .before .before .before .before .before .before .before .before .before .before .if2 .left)) (rw (← c .before .before .before .before .before .before .before .before .before .before .before .before .before .get .ensures) (c .before .before .before .before .get3 .ensures)) (rw (← c .before .before .before .before .before .before .before .before .before .before .before .before .before .get .ensures) (c .before .before .put .ensures)) (rw (← c .before .before .before .before .before .before .before .before .before .before .before .before .before .get .ensures, ← c .before .before .before .before .before .before .before .before .before .before .before .get2 .ensures) (c .before .before .before .before .before .before .before .before .write-places .ensures)))
+returns-4 c = rw (c .forget .ensures, c .before .before .before .before .before .before .before .before .before .before .before .before .get2 .ensures, c .before .before .before .before .before .before .before .before .before .before .before .before .before .before .get .ensures) (seal-done _ _ _ _ (c .before .before .before .before .before .before .before .before .before .before .before .before .before .before .before .before .before .before .before .before .before .find .ensures _ .same ∙ c .before .before .before .before .before .before .before .before .before .before .before .before .before .before .before .before .before .before .before .x .given .1) _ _ _ (c .before .before .before .before .before .before .before .before .before .before .before .before .before .before .before .before .is-sealed .ensures ∙ c .before .before .before .before .before .before .before .before .before .before .before .before .before .before .before .if1 .left) (rw (← c .before .before .before .before .before .before .before .before .before .before .before .before .before .before .get .ensures, ← c .before .before .before .before .before .before .before .before .before .before .before .before .get2 .ensures) (c .before .before .before .before .before .before .before .before .before .before .before .if2 .left)) (rw (← c .before .before .before .before .before .before .before .before .before .before .before .before .before .before .get .ensures) (c .before .before .before .before .before .get3 .ensures)) (rw (← c .before .before .before .before .before .before .before .before .before .before .before .before .before .before .get .ensures) (c .before .before .before .put .ensures)) (rw (← c .before .before .before .before .before .before .before .before .before .before .before .before .before .before .get .ensures, ← c .before .before .before .before .before .before .before .before .before .before .before .before .get2 .ensures) (c .before .before .before .before .before .before .before .before .before .write-places .ensures)))
 
 pub seal-spec : {M : Type 1} → statement M
 seal-spec =
@@ -80,6 +83,7 @@ seal-spec =
     write-places-requires
     get-requires-3
     put-requires
+    forget-requires
     same-length-3
     same-length-4
     returns-4)

@@ -29,12 +29,15 @@ get-requires c κs = let l = on-live _ _ _ _ (c .before .before .before .before 
 put-requires : tie.Need-put-requires
 put-requires c κs = let l = on-live _ _ _ _ (c .before .before .before .before .before .before .before .before .before .before .pre) (c .before .before .before .before .before .before .find .ensures _) (c .before .before .before .before .x .given .1) in search needs
 
+forget-requires : tie.Need-forget-requires
+forget-requires c κs = search needs
+
 same-length-2 : tie.Need-same-length-2
 same-length-2 c = search needs
 
 returns-2 : tie.Need-returns-2
 unfolding setElement
-returns-2 c = let s = c .before .before .before .before .before .before .before .before .before .before .before .before .before .args .shared .now in rw ((c .before .before .before .before .before .before .before .before .before .find .ensures s .same) ∙ (c .before .before .before .before .before .before .before .x .given .1), (c .before .before .put .ensures), (c .before .before .before .before .get .ensures))
+returns-2 c = let s = c .before .before .before .before .before .before .before .before .before .before .before .before .before .before .args .shared .now in rw ((c .before .before .before .before .before .before .before .before .before .before .find .ensures s .same) ∙ (c .before .before .before .before .before .before .before .before .x .given .1), (c .before .before .before .put .ensures), (c .before .before .before .before .before .get .ensures), (c .forget .ensures))
 
 pub set-spec : {M : Type 1} → statement M
 set-spec =
@@ -47,5 +50,6 @@ set-spec =
     returns
     get-requires
     put-requires
+    forget-requires
     same-length-2
     returns-2)

@@ -29,12 +29,15 @@ get-requires-2 c κs = let l = on-live _ _ _ _ (c .before .before .before .befor
 put-requires : tie.Need-put-requires
 put-requires c κs = let l = on-live _ _ _ _ (c .before .before .before .before .before .before .before .before .before .before .pre) (c .before .before .before .before .before .before .before .find .ensures _) (c .before .before .before .before .before .x .given .1) in rw (c .before .before .before .get .ensures) (search needs)
 
+forget-requires : tie.Need-forget-requires
+forget-requires c κs = search needs
+
 same-length : tie.Need-same-length
 same-length c = search needs
 
 returns-2 : tie.Need-returns-2
 unfolding setShared
-returns-2 c = let s = c .before .before .before .before .before .before .before .before .before .before .before .before .before .args .shared .now in rw ((c .before .before .before .before .before .before .before .before .before .before .find .ensures s .same) ∙ (c .before .before .before .before .before .before .before .before .x .given .1), (c .before .before .put .ensures), (c .before .before .before .before .get2 .ensures), (c .before .before .before .before .before .before .get .ensures))
+returns-2 c = let s = c .before .before .before .before .before .before .before .before .before .before .before .before .before .before .args .shared .now in rw ((c .before .before .before .before .before .before .before .before .before .before .before .find .ensures s .same) ∙ (c .before .before .before .before .before .before .before .before .before .x .given .1), (c .before .before .before .put .ensures), (c .before .before .before .before .before .get2 .ensures), (c .before .before .before .before .before .before .before .get .ensures), (c .forget .ensures))
 
 pub set-shared-spec : {M : Type 1} → statement M
 set-shared-spec =
@@ -47,5 +50,6 @@ set-shared-spec =
     get-requires
     get-requires-2
     put-requires
+    forget-requires
     same-length
     returns-2)

@@ -1,5 +1,4 @@
-use mathlib.Core.Path.{sym}
-use Rattle.host.proofs.Kit.{hosted}
+use Rattle.host.proofs.Kit.{stepped}
 use borrow.Author.Needs.{needs}
 use Rattle.host.proofs.seals.doorsedge_seal.Statement.{statement}
 use Rattle.host.proofs.seals.doorsedge_seal.Tie as tie
@@ -13,6 +12,9 @@ seal-requires c κs = search needs
 sealed-requires : tie.Need-sealed-requires
 sealed-requires c κs = search needs
 
+store-requires : tie.Need-store-requires
+store-requires c κs = search needs
+
 same-length : tie.Need-same-length
 same-length c = search needs
 
@@ -20,9 +22,16 @@ same-length-2 : tie.Need-same-length-2
 same-length-2 c = search needs
 
 returns : tie.Need-returns
-returns c = hosted _ _ _ _ _ _ _ _ _ _ _ _ _ _ _ _ (c .before .before .before .before .before .before .before .before .before .unpack .ensures) (c .before .before .before .before .before .before .seal .ensures) (sym (c .before .before .before .before .before .before .before .before .before .unpack .ensures)) (c .sealed .ensures)
+returns c = stepped _ _ _ _ _ _ _ _ _ _ _ _ _ _ _ _ (c .before .before .before .before .before .before .before .before .before .before .before .before .unpack .ensures) (c .before .before .before .before .before .before .before .before .before .seal .ensures) (c .before .before .sealed .ensures) (c .store .ensures)
 
 pub doorsedge-seal-spec : {M : Type 1} → statement M
 doorsedge-seal-spec =
     tie.close
-    (tie.spec unpack-requires seal-requires sealed-requires same-length same-length-2 returns)
+    (tie.spec
+    unpack-requires
+    seal-requires
+    sealed-requires
+    store-requires
+    same-length
+    same-length-2
+    returns)

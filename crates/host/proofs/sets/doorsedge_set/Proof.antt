@@ -1,5 +1,4 @@
-use mathlib.Core.Path.{sym}
-use Rattle.host.proofs.Kit.{hosted}
+use Rattle.host.proofs.Kit.{stepped}
 use borrow.Author.Needs.{needs}
 use Rattle.host.proofs.sets.doorsedge_set.Statement.{statement}
 use Rattle.host.proofs.sets.doorsedge_set.Tie as tie
@@ -13,12 +12,22 @@ set-requires c κs = search needs
 number-requires : tie.Need-number-requires
 number-requires c κs = search needs
 
+store-requires : tie.Need-store-requires
+store-requires c κs = search needs
+
 same-length : tie.Need-same-length
 same-length c = search needs
 
 returns : tie.Need-returns
-returns c = hosted _ _ _ _ _ _ _ _ _ _ _ _ _ _ _ _ (c .before .before .before .before .before .before .unpack .ensures) (c .before .before .before .before .set .ensures) (sym (c .before .before .before .before .before .before .unpack .ensures)) (c .number .ensures _)
+returns c = stepped _ _ _ _ _ _ _ _ _ _ _ _ _ _ _ _ (c .before .before .before .before .before .before .before .before .before .unpack .ensures) (c .before .before .before .before .before .before .before .set .ensures) (c .before .before .number .ensures _) (c .store .ensures)
 
 pub doorsedge-set-spec : {M : Type 1} → statement M
 doorsedge-set-spec =
-    tie.close (tie.spec unpack-requires set-requires number-requires same-length returns)
+    tie.close
+    (tie.spec
+    unpack-requires
+    set-requires
+    number-requires
+    store-requires
+    same-length
+    returns)

@@ -72,7 +72,7 @@ same-length-3 c = search needs
 returns : tie.Need-returns
 returns c =
     let st = stateOf (c .before .before .before .before .before .before .before .before .before .before .before .before .before .before .before .before .before .before .args .head) (c .before .before .before .before .before .before .before .before .before .before .before .before .before .before .before .before .before .before .args .elems .now) (c .before .before .before .before .before .before .before .before .before .before .before .before .before .before .before .before .before .before .args .shared .now) in
-    rw (c .before .before .before .before .before .before .before .before .before .before .before .before .line .given .1) (told st (c .before .before .before .before .before .before .before .before .before .before .before .before .before .before .before .before .before .before .pre .0) keyText (newRun (c .before .before .before .before .before .before .before .before .before .before .before .before .line .given .0 .0) (c .before .before .before .before .before .before .before .before .before .before .before .before .line .given .0 .1 .0) (c .before .before .before .before .before .before .before .before .before .before .before .before .line .given .0 .1 .1 .0)) (λ o. refl) refl _ _ _ _ (c .before .before .before .before .before .before .before .before .insert-surject .ensures) (c .before .before .tell-inserted .ensures) (omega arith))
+    rw (c .before .before .before .before .before .before .before .before .before .before .before .before .line .given .1) (told st (c .before .before .before .before .before .before .before .before .before .before .before .before .before .before .before .before .before .before .pre .0) keyText (newRun (c .before .before .before .before .before .before .before .before .before .before .before .before .line .given .0 .0) (c .before .before .before .before .before .before .before .before .before .before .before .before .line .given .0 .1 .0) (c .before .before .before .before .before .before .before .before .before .before .before .before .line .given .0 .1 .1 .0)) (λ o. refl) refl tt _ _ _ _ (c .before .before .before .before .before .before .before .before .insert-surject .ensures) (c .before .before .tell-inserted .ensures) (omega arith))
 
 same-length-4 : tie.Need-same-length-4
 same-length-4 c = search needs
@@ -86,7 +86,7 @@ same-length-6 c = search needs
 returns-2 : tie.Need-returns-2
 returns-2 c =
     let st = stateOf (c .before .before .before .before .before .before .before .before .before .before .before .before .before .before .before .before .before .before .args .head) (c .before .before .before .before .before .before .before .before .before .before .before .before .before .before .before .before .before .before .args .elems .now) (c .before .before .before .before .before .before .before .before .before .before .before .before .before .before .before .before .before .before .args .shared .now) in
-    rw (c .before .before .before .before .before .before .before .before .before .before .before .before .line2 .given .1) (told st (c .before .before .before .before .before .before .before .before .before .before .before .before .before .before .before .before .before .before .pre .0) keyText (insert (c .before .before .before .before .before .before .before .before .before .before .before .before .line2 .given .0 .0) (c .before .before .before .before .before .before .before .before .before .before .before .before .line2 .given .0 .1 .0) (c .before .before .before .before .before .before .before .before .before .before .before .before .line2 .given .0 .1 .1 .0)) (λ o. refl) refl _ _ _ _ (c .before .before .before .before .before .before .before .before .insert .ensures) (c .before .before .tell-inserted2 .ensures) (omega arith))
+    rw (c .before .before .before .before .before .before .before .before .before .before .before .before .line2 .given .1) (told st (c .before .before .before .before .before .before .before .before .before .before .before .before .before .before .before .before .before .before .pre .0) keyText (insert (c .before .before .before .before .before .before .before .before .before .before .before .before .line2 .given .0 .0) (c .before .before .before .before .before .before .before .before .before .before .before .before .line2 .given .0 .1 .0) (c .before .before .before .before .before .before .before .before .before .before .before .before .line2 .given .0 .1 .1 .0)) (λ o. refl) refl tt _ _ _ _ (c .before .before .before .before .before .before .before .before .insert .ensures) (c .before .before .tell-inserted2 .ensures) (omega arith))
 
 same-length-7 : tie.Need-same-length-7
 same-length-7 c = search needs
@@ -100,7 +100,7 @@ same-length-9 c = search needs
 returns-3 : tie.Need-returns-3
 returns-3 c =
     let st = stateOf (c .before .before .before .before .before .before .before .before .before .before .before .before .before .before .before .before .before .before .args .head) (c .before .before .before .before .before .before .before .before .before .before .before .before .before .before .before .before .before .before .args .elems .now) (c .before .before .before .before .before .before .before .before .before .before .before .before .before .before .before .before .before .before .args .shared .now) in
-    rw (c .before .before .before .before .before .before .before .before .before .before .before .before .line3 .given .1) (told st (c .before .before .before .before .before .before .before .before .before .before .before .before .before .before .before .before .before .before .pre .0) unionText (union (c .before .before .before .before .before .before .before .before .before .before .before .before .line3 .given .0 .0) (c .before .before .before .before .before .before .before .before .before .before .before .before .line3 .given .0 .1 .0)) (λ o. refl) refl _ _ _ _ (c .before .before .before .before .before .before .before .before .union .ensures) (c .before .before .tell-joined .ensures) (omega arith))
+    rw (c .before .before .before .before .before .before .before .before .before .before .before .before .line3 .given .1) (told st (c .before .before .before .before .before .before .before .before .before .before .before .before .before .before .before .before .before .before .pre .0) unionText (union (c .before .before .before .before .before .before .before .before .before .before .before .before .line3 .given .0 .0) (c .before .before .before .before .before .before .before .before .before .before .before .before .line3 .given .0 .1 .0)) (λ o. refl) refl tt _ _ _ _ (c .before .before .before .before .before .before .before .before .union .ensures) (c .before .before .tell-joined .ensures) (omega arith))
 
 same-length-10 : tie.Need-same-length-10
 same-length-10 c = search needs
@@ -131,7 +131,7 @@ same-length-16 c = search needs
 returns-5 : tie.Need-returns-5
 returns-5 c =
     let st = stateOf (c .before .before .before .before .before .before .before .before .before .before .before .before .before .before .before .before .before .before .args .head) (c .before .before .before .before .before .before .before .before .before .before .before .before .before .before .before .before .before .before .args .elems .now) (c .before .before .before .before .before .before .before .before .before .before .before .before .before .before .before .before .before .before .args .shared .now) in
-    rw (c .before .before .before .before .before .before .before .before .before .before .before .before .line5 .given .1) (told st (c .before .before .before .before .before .before .before .before .before .before .before .before .before .before .before .before .before .before .pre .0) removeText (remove (c .before .before .before .before .before .before .before .before .before .before .before .before .line5 .given .0 .0)) (λ o. refl) refl _ _ _ _ (c .before .before .before .before .before .before .before .before .remove-element .ensures) (c .before .before .tell-removed .ensures) (omega arith))
+    rw (c .before .before .before .before .before .before .before .before .before .before .before .before .line5 .given .1) (told st (c .before .before .before .before .before .before .before .before .before .before .before .before .before .before .before .before .before .before .pre .0) removeText (remove (c .before .before .before .before .before .before .before .before .before .before .before .before .line5 .given .0 .0)) (λ o. refl) refl tt _ _ _ _ (c .before .before .before .before .before .before .before .before .remove-element .ensures) (c .before .before .tell-removed .ensures) (omega arith))
 
 same-length-17 : tie.Need-same-length-17
 same-length-17 c = search needs

@@ -26,16 +26,16 @@ use Rattle.rules.proofs.laws.Good.{Good, good-told}
 use Rattle.rules.proofs.laws.Histories.Gone.{rep-none}
 use Rattle.rules.proofs.laws.Histories.Drain.{good-all}
 
-good-empty : (elems shared g put taken : ℕ) (ss : List Key) (gs : List Given) → Ready (empty elems shared g) → taken ≡ put → Good (empty elems shared g) (record { runs = []; sealed = stillIn [] ss; sizes = stillGiven [] gs; put = put; taken = taken; generation = g })
+good-empty : (unjoined : List (List Key)) (elems shared g put taken : ℕ) (ss : List Key) (gs : List Given) → Ready (empty elems shared g) → taken ≡ put → Good (empty elems shared g) (record { runs = []; unjoined = unjoined; sealed = stillIn [] ss; sizes = stillGiven [] gs; put = put; taken = taken; generation = g })
 unfolding empty
-good-empty elems shared g put taken ss gs Y e =
+good-empty unjoined elems shared g put taken ss gs Y e =
     let z : (s : ℕ) → view (empty elems shared g) .gen s ≡ 0 = λ s. cell-zeros frameWidth (elems * frameWidth) 0 s in
     record { ready = Y; rings = rep-none (view (empty elems shared g)) z; seals = seals-none (view (empty elems shared g)) z ss; sizes = givens-none (view (empty elems shared g)) z gs; generation = refl; counts = omega arith }
 
 module _ (st : State) (h : History) (G : Good st h) where
   pub good-clear : (values : List ℕ) → Good (cleared st) (accepted h clear values)
   unfolding cleared
-  good-clear values = good-told refl refl refl (ap raised (G .generation)) (good-empty (st .head .elems .capacity) (st .head .shared .capacity) (raised (st .head .generation)) (h .put) (h .taken + frames h) (h .sealed) (h .sizes) (clear-keeps st (G .ready)) (omega (arith, G .counts)))
+  good-clear values = good-told refl refl refl (ap raised (G .generation)) (good-empty (h .unjoined) (st .head .elems .capacity) (st .head .shared .capacity) (raised (st .head .generation)) (h .put) (h .taken + frames h) (h .sealed) (h .sizes) (clear-keeps st (G .ready)) (omega (arith, G .counts)))
 
 pub good-drainAll : (st : State) (h : History) → Good st h → (values : List ℕ) → Good (cleared (allDrained (st .head .shared .live) st)) (accepted h drainAll values)
 good-drainAll st h G values =
@@ -53,7 +53,7 @@ module _ (st : State) (elems shared : ℕ) where
   good-start e = go (bothFit st elems shared) refl e
     where
       go : (b : Bool) → bothFit st elems shared ≡ b → outcome st [] (ruled b) .said .number ≡ 0 → Good (outcome st [] (ruled b) .state) nothing
-      go true f e = good-empty elems shared 1 0 0 [] [] (fresh-keeps st elems shared f) refl
+      go true f e = good-empty [] elems shared 1 0 0 [] [] (fresh-keeps st elems shared f) refl
       go false f e = absurd (omega (arith, e))
 
   pub good-fresh : (h : History) → Good st h → Good (freshStep st elems shared .state) (notedFresh h (freshStep st elems shared .said))
@@ -61,5 +61,5 @@ module _ (st : State) (elems shared : ℕ) where
   good-fresh h G = go (bothFit st elems shared) refl
     where
       go : (b : Bool) → bothFit st elems shared ≡ b → Good (outcome st [] (ruled b) .state) (notedFresh h (outcome st [] (ruled b) .said))
-      go true f = good-empty elems shared 1 (h .put) (h .taken + frames h) [] [] (fresh-keeps st elems shared f) (omega (arith, G .counts))
+      go true f = good-empty (h .unjoined) elems shared 1 (h .put) (h .taken + frames h) [] [] (fresh-keeps st elems shared f) (omega (arith, G .counts))
       go false f = G
