@@ -25,14 +25,21 @@
    goes when the run's last frame goes, and with `clear` and `fresh`; a compression takes it along. There is no call that
    takes a seal back.
 
+   Undo. After an accepted `union` the head keeps what is needed to take it back, in its last four numbers, and `undo`
+   does: head and both tables are then number for number as they were before the union, ring order, free chain and shared
+   slot included, and there is nothing further to undo. Any other accepted call drops what the head keeps, but a read,
+   `list`, `lookup` and `check`; so does a set or an exchange of values that were there already. A refused call leaves it
+   alone. So who wants to offer an undo makes no other call in between; and of several unions only the last comes back. No
+   frame comes or goes by an undo, and no key changes.
+
    Sizes. A frame has a size in bytes, a uint32_t given with it, and a run's header the total of its frames' sizes. `insert`
-   adds to the total, `union` adds both, removals and drains subtract, and both compressions carry sizes and totals along;
-   setting a payload leaves the size. A total stays below 281,474,976,710,656 (65,536 frames of 4,294,967,295 bytes have less),
-   so nothing overflows and no call is refused for it. `get_size` and `get_total` read them. Neither places nor records hold
-   sizes: who needs a frame's size reads it before the frame goes.
+   adds to the total, `union` adds both, `undo` parts them again, removals and drains subtract, and both compressions carry
+   sizes and totals along; setting a payload leaves the size. A total stays below 281,474,976,710,656 (65,536 frames of
+   4,294,967,295 bytes have less), so nothing overflows and no call is refused for it. `get_size` and `get_total` read them.
+   Neither places nor records hold sizes: who needs a frame's size reads it before the frame goes.
 
    Refusals. Each entry returns 0 when it accepted, else the number of the refusal. A refused call changes nothing:
-   head, tables, buffers and `out` stay as they were. The tests come in the order 1, 2, 3, 4, 12, 6, 5, 7, and each
+   head, tables, buffers and `out` stay as they were. The tests come in the order 1, 2, 10, 3, 4, 12, 6, 5, 7, and each
    entry below lists those that it can give. Every entry but `fresh` can give 1 and 2. Refusal 3 says why the key is dead:
    the entry returns 3 + 256 * cause, so compare DOORSEDGE_NUMBER(result) with DOORSEDGE_DEAD, never the result itself. Every
    other result is the number alone.
@@ -61,9 +68,10 @@
 
    What a call costs. Anything may stand in the tables, so every call but `fresh` reads both of them whole, up to their
    capacities, before it does its own work; `fresh` writes them whole. That is 4 to 7 ns a slot on the machine of
-   docs/SPEED.md, and up to 30 where one ring lies scattered over 65,536 slots: choose capacities that a study needs. A
-   call takes at most DOORSEDGE_STACK bytes of stack (tests/stack-use.sh adds them up), uses no other memory than what
-   is lent, and asks for one symbol from outside, memset.
+   docs/SPEED.md, and up to 30 where one ring lies scattered over 65,536 slots: choose capacities that a study needs. Where
+   the head keeps a union, the smaller of its two runs is walked once more. A call takes at most DOORSEDGE_STACK bytes of
+   stack (tests/stack-use.sh adds them up), uses no other memory than what is lent, and asks for one symbol from outside,
+   memset.
 
    Sound. Up to the extent an element slot is free if its generation is 0, a shared slot if its count is 0; else it is
    live. Refusal 2 is given exactly if one of these does not hold:
@@ -82,7 +90,9 @@
      12  the mark of a live shared slot is 0 or 1 (of a free one it is 0, by line 6)
      13  the size of a live element slot is at most 4,294,967,295
      14  the total of a live shared slot is the sum of the sizes around its ring
-   The definition is crates/rules/specs/Sound.antt, a field for each line.
+     15  the head's last four numbers are 0, or they describe a union whose taking back gives a sound state, from which that
+         union gives the present one
+   The definition is crates/rules/specs/Sound.antt, a field for each line, and of line 15 crates/rules/specs/Undo.antt.
 
    Numbers. Payloads and shared values are any uint64_t. Yes is 1 and no is 0. */
 #ifndef DOORSEDGE_H
@@ -100,12 +110,13 @@ extern "C" {
 enum doorsedge_refusal {
     DOORSEDGE_OK = 0,
     DOORSEDGE_SHAPE = 1,      /* a capacity is not 1 to 65,536, or a table's length is not what its capacity asks */
-    DOORSEDGE_UNSOUND = 2,    /* the shape fits, but head and tables are not a sound state (Sound 1 to 14, above) */
+    DOORSEDGE_UNSOUND = 2,    /* the shape fits, but head and tables are not a sound state (Sound 1 to 15, above) */
     DOORSEDGE_DEAD = 3,       /* a key handed in is not live; the result says why, see doorsedge_cause */
     DOORSEDGE_SAME_CLASS = 4, /* two keys that must be of different runs are of one */
     DOORSEDGE_NO_ELEMENT = 5, /* no element slot up to the capacity is free */
     DOORSEDGE_NO_SHARED = 6,  /* no shared slot up to the capacity is free */
     DOORSEDGE_SHORT = 7,      /* a buffer has fewer places than needed */
+    DOORSEDGE_NOTHING = 10,   /* there is no union to take back */
     DOORSEDGE_SEALED = 12     /* the run is sealed: no frame may come into it, nor may it be sealed again */
 };
 
@@ -122,7 +133,7 @@ enum doorsedge_cause {
 
 /* ---- Layout. Slots are numbered from 1; slot s of a table of width w begins at number (s - 1) * w. */
 
-#define DOORSEDGE_HEAD 9          /* numbers to a head */
+#define DOORSEDGE_HEAD 13         /* numbers to a head */
 #define DOORSEDGE_FRAME 6         /* numbers to an element slot */
 #define DOORSEDGE_HEADER 5        /* numbers to a shared slot */
 #define DOORSEDGE_PLACE 2         /* numbers to a place that `list` writes */
@@ -130,7 +141,7 @@ enum doorsedge_cause {
 #define DOORSEDGE_RECORD 6        /* numbers to a record that `drain` and `drain_all` write */
 #define DOORSEDGE_PAIR 4          /* numbers to a pair of keys that `compress_with` writes */
 #define DOORSEDGE_MOST_SLOTS 65536
-#define DOORSEDGE_STACK 9216      /* bytes of stack that a call takes at most, memset's own not counted */
+#define DOORSEDGE_STACK 9728      /* bytes of stack that a call takes at most, memset's own not counted */
 #define DOORSEDGE_LAST_GENERATION UINT64_C(4294967295)
 #define DOORSEDGE_MOST_BYTES UINT64_C(4294967295) /* the greatest size of a frame */
 
@@ -143,7 +154,8 @@ enum doorsedge_cause {
 #define DOORSEDGE_PAIRS_LEN(frames) ((size_t)(frames) * DOORSEDGE_PAIR)
 #define DOORSEDGE_SCRATCH_LEN(capacity) ((size_t)(capacity) * DOORSEDGE_FRAME)
 
-/* The head's numbers. The extent is the highest slot ever used since fresh, clear or compression. */
+/* The head's numbers. The extent is the highest slot ever used since fresh, clear or compression. The last four are of the
+   union that `undo` takes back, and all 0 where there is none. */
 enum doorsedge_head {
     DOORSEDGE_ELEMS_CAPACITY = 0,
     DOORSEDGE_ELEMS_EXTENT = 1,
@@ -153,7 +165,11 @@ enum doorsedge_head {
     DOORSEDGE_SHARED_EXTENT = 5,
     DOORSEDGE_SHARED_ROOT = 6,
     DOORSEDGE_SHARED_LIVE = 7, /* how many runs there are */
-    DOORSEDGE_GENERATION = 8   /* 1 to 4,294,967,295 */
+    DOORSEDGE_GENERATION = 8,  /* 1 to 4,294,967,295 */
+    DOORSEDGE_UNDO_KEPT = 9,   /* element slot of the key whose run's shared value was kept */
+    DOORSEDGE_UNDO_GONE = 10,  /* element slot of the other key */
+    DOORSEDGE_UNDO_MOVED = 11, /* how many frames changed their run */
+    DOORSEDGE_UNDO_VALUE = 12  /* the shared value that was removed */
 };
 
 /* An element slot's numbers. A free one holds the next free slot in `next`, and 0 elsewhere. */
@@ -266,27 +282,29 @@ uint64_t doorsedge_list(const uint64_t head[DOORSEDGE_HEAD], const uint64_t *ele
                         const uint64_t *shared, size_t shared_len, uint64_t slot, uint64_t generation,
                         uint64_t *places, size_t places_len, uint64_t out[1]);
 
-/* ---- Sets: keys, rings, sizes, totals and the head stay as they are. */
+/* ---- Sets: keys, rings, sizes and totals stay as they are, and of the head all but what it keeps of a union, which
+   goes. */
 
 /* Stores a payload. out: the old one.
    Refusals: 1, 2, 3. */
-uint64_t doorsedge_set(const uint64_t head[DOORSEDGE_HEAD], uint64_t *elems, size_t elems_len, const uint64_t *shared,
+uint64_t doorsedge_set(uint64_t head[DOORSEDGE_HEAD], uint64_t *elems, size_t elems_len, const uint64_t *shared,
                        size_t shared_len, uint64_t slot, uint64_t generation, uint64_t payload, uint64_t out[1]);
 
 /* Stores the shared value of the key's run. out: the old one.
    Refusals: 1, 2, 3. */
-uint64_t doorsedge_set_shared(const uint64_t head[DOORSEDGE_HEAD], const uint64_t *elems, size_t elems_len,
+uint64_t doorsedge_set_shared(uint64_t head[DOORSEDGE_HEAD], const uint64_t *elems, size_t elems_len,
                               uint64_t *shared, size_t shared_len, uint64_t slot, uint64_t generation, uint64_t value,
                               uint64_t out[1]);
 
 /* Stores the shared values of four different runs at once. keys: slot and generation of each key in turn.
    out: the old values, in key order.
    Refusals: 1, 2, 3 (with the cause of the first dead one of the four), 4 (two keys of one run). */
-uint64_t doorsedge_exchange_shared4(const uint64_t head[DOORSEDGE_HEAD], const uint64_t *elems, size_t elems_len,
+uint64_t doorsedge_exchange_shared4(uint64_t head[DOORSEDGE_HEAD], const uint64_t *elems, size_t elems_len,
                                     uint64_t *shared, size_t shared_len, const uint64_t keys[8],
                                     const uint64_t values[4], uint64_t out[4]);
 
-/* ---- Seal: what a finalizer calls. Keys, rings and the head stay as they are. */
+/* ---- Seal: what a finalizer calls. Keys and rings stay as they are, and of the head all but what it keeps of a union,
+   which goes. */
 
 /* Seals the key's run: writes the key and the payload of each of its frames into `places`, in ring order from the key,
    DOORSEDGE_SEAL_PLACE numbers a frame, and sets the run's mark. Numbers past those written stay as they were. From then
@@ -294,7 +312,7 @@ uint64_t doorsedge_exchange_shared4(const uint64_t head[DOORSEDGE_HEAD], const u
    out: the run's shared value; and how many frames it has, which is how many were written.
    Refusals: 1, 2, 3, 12 (the run is sealed already), 7 (fewer than DOORSEDGE_SEAL_LEN(frames of the run) numbers; the run
    is not sealed then). */
-uint64_t doorsedge_seal(const uint64_t head[DOORSEDGE_HEAD], const uint64_t *elems, size_t elems_len, uint64_t *shared,
+uint64_t doorsedge_seal(uint64_t head[DOORSEDGE_HEAD], const uint64_t *elems, size_t elems_len, uint64_t *shared,
                         size_t shared_len, uint64_t slot, uint64_t generation, uint64_t *places, size_t places_len,
                         uint64_t out[2]);
 
@@ -314,13 +332,18 @@ uint64_t doorsedge_insert(uint64_t head[DOORSEDGE_HEAD], uint64_t *elems, size_t
                           uint64_t out[2]);
 
 /* Joins two runs. The larger run's shared value is kept, or the first key's where they are equally large, by their numbers of
-   frames and not by their bytes; the totals are added; keys stay live.
+   frames and not by their bytes; the totals are added; keys stay live. The head keeps what `undo` needs.
    out: the removed shared value, slot and generation of the key (of the two) whose value is kept, and how many frames
    changed their run.
    Refusals: 1, 2, 3, 4 (both keys of one run), 12 (one of the runs is sealed). */
 uint64_t doorsedge_union(uint64_t head[DOORSEDGE_HEAD], uint64_t *elems, size_t elems_len, uint64_t *shared,
                          size_t shared_len, uint64_t slot0, uint64_t generation0, uint64_t slot1, uint64_t generation1,
                          uint64_t out[4]);
+
+/* Takes the last union back; see Undo, above. Head and tables become what they were before it, and nothing is kept.
+   Refusals: 1, 2, 10 (no union was made, or another call was accepted since that is no read, list, lookup or check). */
+uint64_t doorsedge_undo(uint64_t head[DOORSEDGE_HEAD], uint64_t *elems, size_t elems_len, uint64_t *shared,
+                        size_t shared_len);
 
 /* Removes a frame. The run's total is less by its size. The generation rises by one.
    out: its payload; 1 if it was the run's last frame, else 0; the run's shared value if it was, else 0; and 1 if the
@@ -394,9 +417,14 @@ struct doorsedge_pool {
     uint64_t capacity, extent, root, live;
 };
 
+struct doorsedge_memory {
+    uint64_t kept, gone, moved, value;
+};
+
 struct doorsedge_lent_head {
     struct doorsedge_pool elems, shared;
     uint64_t generation;
+    struct doorsedge_memory undo;
 };
 
 /* As `doorsedge_insert`.

@@ -1,102 +1,6 @@
 /* Every entry of doorsedge.h, called from C: an accepted call and a refused one, with what it answers and leaves. Built and
    run by host/c/run.sh; tools/check-header fails where an entry is not called here. */
-#include "doorsedge.h"
-
-#include <inttypes.h>
-#include <stdio.h>
-#include <string.h>
-
-#define FRAMES 5
-#define RUNS 4
-#define ELEMS DOORSEDGE_ELEMS_LEN(FRAMES)
-#define SHARED DOORSEDGE_SHARED_LEN(RUNS)
-#define UNTOUCHED UINT64_C(77)
-#define MOST DOORSEDGE_MOST_BYTES
-
-static uint64_t head[DOORSEDGE_HEAD], elems[ELEMS], shared[SHARED], out[4], places[DOORSEDGE_LIST_LEN(FRAMES)],
-    sealed[DOORSEDGE_SEAL_LEN(FRAMES)], records[DOORSEDGE_DRAIN_LEN(FRAMES)], scratch[DOORSEDGE_SCRATCH_LEN(FRAMES)],
-    pairs[DOORSEDGE_PAIRS_LEN(FRAMES)];
-
-/* Head and tables, as every entry takes them. */
-#define STATE head, elems, ELEMS, shared, SHARED
-
-static int tried, failed;
-
-static void is(int line, const char *what, uint64_t got, uint64_t want) {
-    tried++;
-    if (got != want) {
-        failed++;
-        printf("entries.c:%d: %s is %" PRIu64 ", expected %" PRIu64 "\n", line, what, got, want);
-    }
-}
-#define IS(what, want) is(__LINE__, #what, (what), (want))
-
-/* The first numbers of `at` are these. */
-static void holds(int line, const char *what, const uint64_t *at, const uint64_t *want, size_t count) {
-    for (size_t i = 0; i < count; i++)
-        is(line, what, at[i], want[i]);
-}
-#define HOLDS(at, ...)                                                                                                 \
-    holds(__LINE__, #at, (at), (const uint64_t[]){__VA_ARGS__}, sizeof((const uint64_t[]){__VA_ARGS__}) / sizeof(uint64_t))
-
-static void fill(uint64_t *at, size_t count) {
-    for (size_t i = 0; i < count; i++)
-        at[i] = UNTOUCHED;
-}
-
-/* Shared slot c holds this run's header: its count, value, mark and total, and 0 for next free. */
-static void header(int line, uint64_t c, uint64_t count, uint64_t value, uint64_t mark, uint64_t total) {
-    const uint64_t *at = shared + (c - 1) * DOORSEDGE_HEADER;
-    is(line, "a run's count", at[DOORSEDGE_HEADER_COUNT], count);
-    is(line, "a run's value", at[DOORSEDGE_HEADER_VALUE], value);
-    is(line, "a run's next free", at[DOORSEDGE_HEADER_NEXT_FREE], 0);
-    is(line, "a run's mark", at[DOORSEDGE_HEADER_MARK], mark);
-    is(line, "a run's total", at[DOORSEDGE_HEADER_TOTAL], total);
-}
-#define RUN(c, count, value, mark, total) header(__LINE__, c, count, value, mark, total)
-
-/* What a refused call may not change, kept before it. */
-static uint64_t kept[DOORSEDGE_HEAD + ELEMS + SHARED];
-
-static void keep(uint64_t *to) {
-    memcpy(to, head, sizeof head);
-    memcpy(to + DOORSEDGE_HEAD, elems, sizeof elems);
-    memcpy(to + DOORSEDGE_HEAD + ELEMS, shared, sizeof shared);
-}
-
-/* The call is refused so, and head, tables and `out` are as they were. */
-static uint64_t mark_out(void) {
-    fill(out, 4);
-    keep(kept);
-    return 0;
-}
-
-static void refused(int line, const char *what, uint64_t got, uint64_t want) {
-    uint64_t now[sizeof kept / sizeof *kept];
-    is(line, what, got, want);
-    keep(now);
-    is(line, "head and tables after a refusal", memcmp(now, kept, sizeof kept) != 0, 0);
-    for (int i = 0; i < 4; i++)
-        is(line, "out after a refusal", out[i], UNTOUCHED);
-}
-#define REFUSED(call, want) (mark_out(), refused(__LINE__, #call, (call), (want)))
-
-/* Refusal 3 with this cause, as an entry returns it. */
-#define DEAD(cause) (DOORSEDGE_DEAD + UINT64_C(256) * DOORSEDGE_##cause)
-
-/* Slots 1, 3, 2 in a ring under 100, of 1, 4 and 2 bytes, and 4 under 200, of the most; one slot and two headers are free. */
-static void two_runs(void) {
-    IS(doorsedge_fresh(head, FRAMES, RUNS, elems, ELEMS, shared, SHARED), DOORSEDGE_OK);
-    IS(doorsedge_insert_surject(STATE, 10, 100, 1, out), DOORSEDGE_OK);
-    HOLDS(out, 1, 1);
-    IS(doorsedge_insert(STATE, 1, 1, 11, 2, out), DOORSEDGE_OK);
-    HOLDS(out, 2, 1);
-    IS(doorsedge_insert(STATE, 1, 1, 12, 4, out), DOORSEDGE_OK);
-    HOLDS(out, 3, 1);
-    IS(doorsedge_insert_surject(STATE, 20, 200, UINT32_MAX, out), DOORSEDGE_OK);
-    HOLDS(out, 4, 1);
-    fill(out, 4);
-}
+#include "entries.h"
 
 static void fresh_and_check(void) {
     fill(head, DOORSEDGE_HEAD);
@@ -105,7 +9,7 @@ static void fresh_and_check(void) {
     REFUSED(doorsedge_check(STATE), DOORSEDGE_SHAPE);
     REFUSED(doorsedge_fresh(head, FRAMES + 1, RUNS, elems, ELEMS, shared, SHARED), DOORSEDGE_SHAPE);
     IS(doorsedge_fresh(head, FRAMES, RUNS, elems, ELEMS, shared, SHARED), DOORSEDGE_OK);
-    HOLDS(head, FRAMES, 0, 0, 0, RUNS, 0, 0, 0, 1);
+    HOLDS(head, FRAMES, 0, 0, 0, RUNS, 0, 0, 0, 1, 0, 0, 0, 0);
     IS(doorsedge_check(STATE), DOORSEDGE_OK);
     head[DOORSEDGE_ELEMS_LIVE]++;
     REFUSED(doorsedge_check(STATE), DOORSEDGE_UNSOUND);
@@ -354,7 +258,7 @@ static void drains(void) {
     IS(doorsedge_drain_all(STATE, records, DOORSEDGE_DRAIN_LEN(4), out), DOORSEDGE_OK);
     HOLDS(out, 4, UNTOUCHED);
     HOLDS(records, 1, 1, 10, 0, 0, 0, 3, 1, 12, 0, 0, 0, 2, 1, 11, 1, 100, 0, 4, 1, 20, 1, 200, 0, UNTOUCHED);
-    HOLDS(head, FRAMES, 0, 0, 0, RUNS, 0, 0, 0, 6);
+    HOLDS(head, FRAMES, 0, 0, 0, RUNS, 0, 0, 0, 6, 0, 0, 0, 0);
 }
 
 static void clear_and_compress(void) {
@@ -370,10 +274,10 @@ static void clear_and_compress(void) {
     HOLDS(elems, 3, 11, 1, 2, 2, 2, 3, 12, 1, 1, 1, 4, 3, 20, 2, 3, 3, MOST, 0);
     RUN(1, 2, 100, 0, 6);
     RUN(2, 1, 200, 0, MOST);
-    HOLDS(head, FRAMES, 3, 0, 3, RUNS, 2, 0, 2, 3);
+    HOLDS(head, FRAMES, 3, 0, 3, RUNS, 2, 0, 2, 3, 0, 0, 0, 0);
     IS(doorsedge_clear(STATE, out), DOORSEDGE_OK);
     HOLDS(out, 0, UNTOUCHED);
-    HOLDS(head, FRAMES, 0, 0, 0, RUNS, 0, 0, 0, 4);
+    HOLDS(head, FRAMES, 0, 0, 0, RUNS, 0, 0, 0, 4, 0, 0, 0, 0);
     head[DOORSEDGE_SHARED_EXTENT] = RUNS + 1;
     REFUSED(doorsedge_clear(STATE, out), DOORSEDGE_UNSOUND);
 }
@@ -402,7 +306,7 @@ static void compress_in_order(void) {
     RUN(1, 1, 200, 1, MOST);
     RUN(2, 1, 300, 0, 9);
     RUN(3, 0, 0, 0, 0);
-    HOLDS(head, FRAMES, 2, 0, 2, RUNS, 2, 0, 2, 3);
+    HOLDS(head, FRAMES, 2, 0, 2, RUNS, 2, 0, 2, 3, 0, 0, 0, 0);
     head[DOORSEDGE_GENERATION] = DOORSEDGE_LAST_GENERATION;
     IS(doorsedge_compress_with(STATE, 0, pairs, DOORSEDGE_PAIRS_LEN(2), out), DOORSEDGE_OK);
     HOLDS(out, 2, 1, UNTOUCHED);
@@ -443,6 +347,15 @@ static void in_place(void) {
     RUN(1, 1, 100, 0, 6);
     REFUSED(doorsedge_remove_in_place(&own, elems, ELEMS, shared, SHARED, 1, 1, out), DEAD(FREE_SLOT));
     IS(numbers[DOORSEDGE_GENERATION], own.generation);
+    IS(doorsedge_insert_surject(numbers, elems, ELEMS, shared, SHARED, 20, 200, 7, out), DOORSEDGE_OK);
+    HOLDS(out, 1, 2);
+    IS(doorsedge_union(numbers, elems, ELEMS, shared, SHARED, 2, 1, 1, 2, out), DOORSEDGE_OK);
+    IS(own.undo.kept, 2);
+    IS(own.undo.gone, 1);
+    IS(own.undo.moved, 1);
+    IS(own.undo.value, 200);
+    IS(doorsedge_undo(numbers, elems, ELEMS, shared, SHARED), DOORSEDGE_OK);
+    IS(own.shared.live, 2);
 }
 
 /* NULL with length 0: an empty buffer where none is needed, one too short where it is, and tables of no shape. */
@@ -462,10 +375,10 @@ static void null_with_none(void) {
     fill(out, 4);
     IS(doorsedge_drain_all(STATE, NULL, 0, out), DOORSEDGE_OK);
     HOLDS(out, 0, UNTOUCHED);
-    HOLDS(head, FRAMES, 0, 0, 0, RUNS, 0, 0, 0, 2);
+    HOLDS(head, FRAMES, 0, 0, 0, RUNS, 0, 0, 0, 2, 0, 0, 0, 0);
     IS(doorsedge_compress_with(STATE, 0, NULL, 0, out), DOORSEDGE_OK);
     HOLDS(out, 0, 0, UNTOUCHED);
-    HOLDS(head, FRAMES, 0, 0, 0, RUNS, 0, 0, 0, 3);
+    HOLDS(head, FRAMES, 0, 0, 0, RUNS, 0, 0, 0, 3, 0, 0, 0, 0);
 }
 
 /* When an old key comes alive again: not by a removal, but by an overflow, by `fresh` and by a compression with reset. */

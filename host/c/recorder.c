@@ -1,7 +1,6 @@
-/* A recorder of image runs, as a host writes it in C: frames come in, runs are joined, a bad frame goes, the frames move
-   down and the keys that are held follow, a viewer lists a run, the study is written out and the tables are ready for the
-   next patient. Its tables are its own; nothing is
-   allocated. Built and run by host/c/run.sh, which compares what it prints with recorder.stdout. */
+/* A recorder of image runs, as a host writes it in C: frames come in, runs are joined, the wrong two among them, which is taken
+   back, a bad frame goes, the frames move down and the keys that are held follow, a viewer lists a run, the study is written out
+   and the tables are ready for the next patient. Its tables are its own; nothing is allocated. Built and run by host/c/run.sh, which compares what it prints with recorder.stdout. */
 #include "doorsedge.h"
 
 #include <inttypes.h>
@@ -67,6 +66,17 @@ static uint64_t join_runs(study *s, key a, key b, key *kept) {
     *kept = (key){out[1], out[2]};
     printf("joined: description %" PRIu64 " goes, %" PRIu64 " frames changed their run\n", out[0], out[3]);
     return out[0];
+}
+
+/* Takes the last union back, which a viewer's calls in between do not hinder; any other call does. */
+static void take_back(study *s) {
+    uint64_t refusal = doorsedge_undo(s->head, TABLES(s));
+    if (refusal == DOORSEDGE_NOTHING) {
+        printf("nothing to take back: refused %" PRIu64 "\n", refusal);
+        return;
+    }
+    must("undo", refusal);
+    printf("taken back\n");
 }
 
 static void drop_frame(study *s, key k) {
@@ -144,8 +154,16 @@ int main(void) {
     show_run(&s, left);
     show_run(&s, right);
 
-    /* they were one: the larger run's description stays */
+    /* joined by mistake, which is seen in the viewer: both runs are as they were */
     key kept;
+    join_runs(&s, left, right, &kept);
+    show_run(&s, kept);
+    take_back(&s);
+    show_run(&s, left);
+    show_run(&s, right);
+    take_back(&s);
+
+    /* they were one after all, from the last frames on: the larger run's description stays */
     join_runs(&s, right_last, left_last, &kept);
     show_run(&s, kept);
 

@@ -61,6 +61,8 @@ pub enum Refusal {
     NoShared,
     /// A buffer has fewer places than needed.
     Short,
+    /// There is no union to take back: none was made, or another accepted call that is no read came after it.
+    Nothing,
     /// The run is sealed: it was saved as it stood, no frame may come into it by an insert or a union, and it cannot be
     /// sealed again. What comes too late begins a run of its own.
     Sealed,
@@ -77,6 +79,7 @@ impl Refusal {
             Refusal::NoElement => 5,
             Refusal::NoShared => 6,
             Refusal::Short => 7,
+            Refusal::Nothing => 10,
             Refusal::Sealed => 12,
         }
     }
@@ -99,6 +102,7 @@ impl Refusal {
             5 => Refusal::NoElement,
             6 => Refusal::NoShared,
             7 => Refusal::Short,
+            10 => Refusal::Nothing,
             12 => Refusal::Sealed,
             crate::sys::ABSENT => panic!("the archive lacks this entry"),
             n => unreachable!("no entry gives {n}"),
@@ -116,6 +120,7 @@ impl fmt::Display for Refusal {
             Refusal::NoElement => "no element slot up to the capacity is free",
             Refusal::NoShared => "no shared slot up to the capacity is free",
             Refusal::Short => "a buffer has fewer places than needed",
+            Refusal::Nothing => "there is no union to take back",
             Refusal::Sealed => "the run is sealed, no frame may come into it",
         };
         write!(f, "refused {}: {why}", self.number())

@@ -4,7 +4,7 @@ use crate::answers::{Compressed, Joined, Key, Moved, Record, Refusal, Removed, R
 use crate::answers::{SealedFrame, SealedHeader, SealedRun};
 use crate::sys::{self, Head};
 use crate::tables::{Borrowed, Owned, Tables};
-use crate::{PAIR, PLACE, RECORD, SEAL_PLACE, elems_len, shared_len};
+use crate::{HEAD, PAIR, PLACE, RECORD, SEAL_PLACE, elems_len, shared_len};
 
 /// Frames in runs. See the [crate's page](crate) for an example.
 #[derive(Clone, PartialEq, Eq, Debug)]
@@ -36,7 +36,7 @@ impl Arena {
             // so that no table is allocated that is refused anyway
             return Err(Refusal::Shape);
         }
-        let tables = Owned { head: [0; 9], elems: zeros(elems_len(elems)), shared: zeros(shared_len(shared)) };
+        let tables = Owned { head: [0; HEAD], elems: zeros(elems_len(elems)), shared: zeros(shared_len(shared)) };
         let mut arena = Arena { tables };
         arena.make_fresh(elems as u64, shared as u64)?;
         Ok(arena)
@@ -124,6 +124,11 @@ impl<T: Tables> Arena<T> {
 
     pub fn generation(&self) -> u64 {
         self.head()[8]
+    }
+
+    /// Whether a union can be taken back by [undo](Arena::undo).
+    pub fn can_undo(&self) -> bool {
+        self.head()[9] != 0
     }
 
     pub fn head(&self) -> &Head {
@@ -338,11 +343,39 @@ impl<T: Tables> Arena<T> {
     }
 
     /// Joins two runs. The larger one's shared value is kept, or the first key's where they are equally large. Neither may
-    /// be [sealed](Arena::seal).
+    /// be [sealed](Arena::seal). [undo](Arena::undo) takes it back.
     pub fn union(&mut self, key0: Key, key1: Key) -> Result<Joined, Refusal> {
         let mut out = [0; 4];
         change!(self, doorsedge_union, key0.slot(), key0.generation(), key1.slot(), key1.generation(), &mut out)?;
         Ok(Joined { was: out[0], kept: Key::new(out[1], out[2]), moved: out[3] })
+    }
+
+    /// Takes the last union back: head and tables are exactly as they were before it, so every key names what it named, and
+    /// rings, shared values and totals are the two runs' own again. There is nothing to undo, and [Nothing](Refusal::Nothing) is
+    /// said, where no union was made or another accepted call came after it; only reads, lists, lookups and checks may. So an
+    /// undo cannot be followed by another.
+    ///
+    /// ```
+    /// # fn main() -> Result<(), doorsedge::Refusal> {
+    /// use doorsedge::{Arena, Refusal};
+    ///
+    /// let mut arena = Arena::fresh(3, 2)?;
+    /// let (first, other) = (arena.insert_surject(10, 100, 0)?, arena.insert_surject(20, 200, 0)?);
+    /// let before = arena.clone();
+    /// arena.union(first, other)?;
+    /// assert_eq!(arena.list(first)?.len(), 2); // the wrong two
+    /// arena.undo()?;
+    /// assert_eq!(arena, before);
+    /// assert_eq!((arena.undo(), Refusal::Nothing.number()), (Err(Refusal::Nothing), 10));
+    ///
+    /// arena.union(first, other)?;
+    /// arena.set(first, 10)?; // the same payload, and yet a call that is no read
+    /// assert_eq!(arena.undo(), Err(Refusal::Nothing));
+    /// # Ok(())
+    /// # }
+    /// ```
+    pub fn undo(&mut self) -> Result<(), Refusal> {
+        change!(self, doorsedge_undo)
     }
 
     /// Removes a frame.

@@ -2,8 +2,9 @@
 //!
 //! An [Arena] holds frames, each with a payload and a size in bytes. Frames stand in rings, called runs, and each run has one
 //! shared value and the total of its frames' sizes.
-//! Runs are begun, grown, joined and taken apart; a [Key] stays valid until its frame is removed or the
-//! arena is compressed. Every call tests the tables, and what it cannot do it refuses with a [Refusal], changing nothing.
+//! Runs are begun, grown, joined and taken apart, and the last union can be [undone](Arena::undo); a [Key] stays valid until
+//! its frame is removed or the arena is compressed. Every call tests the tables, and what it cannot do it refuses with a
+//! [Refusal], changing nothing.
 //!
 //! ```
 //! use doorsedge::{Arena, Cause, Refusal};
@@ -55,10 +56,10 @@
 //! The tables may also be the caller's own, as one that maps a file or shares memory with C would have them:
 //!
 //! ```
-//! use doorsedge::{Arena, Refusal, elems_len, shared_len};
+//! use doorsedge::{Arena, HEAD, Refusal, elems_len, shared_len};
 //!
 //! # fn main() -> Result<(), Refusal> {
-//! let (mut head, mut elems, mut shared) = ([0; 9], [0; elems_len(2)], [0; shared_len(1)]);
+//! let (mut head, mut elems, mut shared) = ([0; HEAD], [0; elems_len(2)], [0; shared_len(1)]);
 //! Arena::fresh_in(2, 1, &mut head, &mut elems, &mut shared)?.insert_surject(7, 70, 0)?;
 //!
 //! // later: whatever stands there now is tested before it is used
@@ -85,6 +86,8 @@ pub use arena::Arena;
 pub use tables::{Borrowed, Owned, Tables};
 pub use writer::Writer;
 
+/// Numbers to a head.
+pub const HEAD: usize = 13;
 /// Numbers to an element slot.
 pub const FRAME: usize = 6;
 /// Numbers to a shared slot.

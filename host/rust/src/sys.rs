@@ -8,7 +8,7 @@
 #[cfg(feature = "mock")]
 use mock as _;
 
-pub type Head = [u64; 9];
+pub type Head = [u64; 13];
 
 /// What the head holds of one table.
 #[derive(Clone, Copy, PartialEq, Eq, Debug, Default)]
@@ -20,25 +20,39 @@ pub struct Pool {
     pub live: u64,
 }
 
-/// A head that a writer lends in place. It lies as the nine numbers of a [Head] do.
+/// What the head holds of the last union, to take it back: zeros where there is nothing to undo.
+#[derive(Clone, Copy, PartialEq, Eq, Debug, Default)]
+#[repr(C)]
+pub struct Memory {
+    pub kept: u64,
+    pub gone: u64,
+    pub moved: u64,
+    pub value: u64,
+}
+
+/// A head that a writer lends in place. It lies as the thirteen numbers of a [Head] do.
 #[derive(Clone, Copy, PartialEq, Eq, Debug, Default)]
 #[repr(C)]
 pub struct LentHead {
     pub elems: Pool,
     pub shared: Pool,
     pub generation: u64,
+    pub undo: Memory,
 }
 
 impl From<Head> for LentHead {
     fn from(head: Head) -> LentHead {
         let pool = |i: usize| Pool { capacity: head[i], extent: head[i + 1], root: head[i + 2], live: head[i + 3] };
-        LentHead { elems: pool(0), shared: pool(4), generation: head[8] }
+        let undo = Memory { kept: head[9], gone: head[10], moved: head[11], value: head[12] };
+        LentHead { elems: pool(0), shared: pool(4), generation: head[8], undo }
     }
 }
 
 impl From<LentHead> for Head {
-    fn from(LentHead { elems: e, shared: s, generation }: LentHead) -> Head {
-        [e.capacity, e.extent, e.root, e.live, s.capacity, s.extent, s.root, s.live, generation]
+    fn from(LentHead { elems: e, shared: s, generation: g, undo: m }: LentHead) -> Head {
+        let (capacity, extent, root, live) = (e.capacity, e.extent, e.root, e.live);
+        let (kept, gone, moved, value) = (m.kept, m.gone, m.moved, m.value);
+        [capacity, extent, root, live, s.capacity, s.extent, s.root, s.live, g, kept, gone, moved, value]
     }
 }
 
@@ -161,7 +175,7 @@ unsafe extern "C" {
     ) -> u64;
 
     pub fn doorsedge_set(
-        head: *const Head,
+        head: *mut Head,
         elems: *mut u64,
         elems_len: usize,
         shared: *const u64,
@@ -173,7 +187,7 @@ unsafe extern "C" {
     ) -> u64;
 
     pub fn doorsedge_set_shared(
-        head: *const Head,
+        head: *mut Head,
         elems: *const u64,
         elems_len: usize,
         shared: *mut u64,
@@ -185,7 +199,7 @@ unsafe extern "C" {
     ) -> u64;
 
     pub fn doorsedge_exchange_shared4(
-        head: *const Head,
+        head: *mut Head,
         elems: *const u64,
         elems_len: usize,
         shared: *mut u64,
@@ -196,7 +210,7 @@ unsafe extern "C" {
     ) -> u64;
 
     pub fn doorsedge_seal(
-        head: *const Head,
+        head: *mut Head,
         elems: *const u64,
         elems_len: usize,
         shared: *mut u64,
@@ -244,6 +258,14 @@ unsafe extern "C" {
         slot1: u64,
         generation1: u64,
         out: *mut [u64; 4],
+    ) -> u64;
+
+    pub fn doorsedge_undo(
+        head: *mut Head,
+        elems: *mut u64,
+        elems_len: usize,
+        shared: *mut u64,
+        shared_len: usize,
     ) -> u64;
 
     pub fn doorsedge_remove_element(

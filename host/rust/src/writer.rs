@@ -7,10 +7,10 @@ use crate::sys::{self, LentHead};
 ///
 /// ```
 /// use doorsedge::sys::LentHead;
-/// use doorsedge::{Arena, Refusal, Writer, elems_len, shared_len};
+/// use doorsedge::{Arena, HEAD, Refusal, Writer, elems_len, shared_len};
 ///
 /// # fn main() -> Result<(), Refusal> {
-/// let (mut numbers, mut elems, mut shared) = ([0; 9], [0; elems_len(2)], [0; shared_len(1)]);
+/// let (mut numbers, mut elems, mut shared) = ([0; HEAD], [0; elems_len(2)], [0; shared_len(1)]);
 /// let first = Arena::fresh_in(2, 1, &mut numbers, &mut elems, &mut shared)?.insert_surject(7, 70, 900)?;
 ///
 /// let mut head = LentHead::from(numbers);

@@ -8,7 +8,9 @@ mod measure;
 mod sides;
 
 use measure::{Batch, least, least_of};
-use measure::{checks, compressions, count_and_list, ordered_compressions, single_calls, unions, whole_calls};
+use measure::{
+    checks, compressions, count_and_list, ordered_compressions, single_calls, union_and_undo, unions, whole_calls,
+};
 use sides::Side::{self, Archive, Door, InPlace, Oracle, Rows};
 use std::time::Duration;
 
@@ -49,6 +51,7 @@ fn calls() {
             line(&batch, n, &[Archive, Door], &[(0, 1)], budget);
         }
         line(&count_and_list(n, 65_536 / n), n, &[Archive, Door], &[(0, 1)], budget);
+        line(&union_and_undo(n, 65_536 / n), n, &[Archive, Door], &[(0, 1)], budget);
     }
     head("The head lent in place, ns a call, beside the head as numbers.", &["in place", "archive", "i/a"]);
     let is_writers = |batch: &&Batch| ["insert", "remove_element"].contains(&batch.name);
@@ -63,6 +66,7 @@ fn calls() {
             line(&batch, n, &[Rows, Oracle], &[(0, 1)], budget);
         }
         line(&count_and_list(n, 128), n, &[Rows, Oracle], &[(0, 1)], budget);
+        line(&union_and_undo(n, 8), n, &[Rows, Oracle], &[(0, 1)], budget);
         line(&unions(n), n, &[Rows, Oracle], &[(0, 1)], budget);
     }
     head(

@@ -3,7 +3,7 @@
 use crate::sides::{BYTES, Bed, Side};
 use model::door::Call;
 use model::layout::{NEXT, PREVIOUS};
-use model::{FRAME, Head, Key, Rows};
+use model::{FRAME, HEAD, Head, Key, Rows};
 use std::time::{Duration, Instant};
 
 /// Calls that are timed together, on a state to which they are made one after another.
@@ -74,6 +74,10 @@ pub fn single_calls(n: usize, most: usize) -> Vec<Batch> {
     let pair = |i: usize| (keys[2 * i % runs], keys[(2 * i + 1) % runs + runs]);
     let four = |i: usize| [0, 1, 2, 3].map(|j| keys[(4 * i + j) % runs]);
     let payload = |i: usize| 1_000 + i as u64;
+    let mut joined = bed.restored();
+    for side in [Side::Rows, Side::Oracle] {
+        joined.make(side, &[Call::Union(pair(0).0, pair(0).1)]);
+    }
     vec![
         batch("lookup", &|i| Call::Lookup(at(i))),
         batch("len_surject", &|i| Call::LenSurject(at(i))),
@@ -88,6 +92,7 @@ pub fn single_calls(n: usize, most: usize) -> Vec<Batch> {
         batch("insert_surject", &|i| Call::InsertSurject { payload: payload(i), value: 7, size: BYTES }),
         batch("insert", &|i| Call::Insert(at(i), payload(i), BYTES)),
         one("union (4 + 4)", &|i| Call::Union(pair(i).0, pair(i).1), count.min(runs / 4).max(1)),
+        Batch { name: "undo (4 + 4), once", bed: joined, calls: vec![Call::Undo], per: 1 },
         batch("remove_element", &|i| Call::RemoveElement(keys[i % runs])),
         batch("remove_shared (4)", &|i| Call::RemoveShared(keys[i % runs])),
         batch("list (4)", &|i| Call::List(at(i))),
@@ -105,6 +110,22 @@ pub fn count_and_list(n: usize, most: usize) -> Batch {
     Batch { name: "len_surject, then list (4)", bed, calls, per: count }
 }
 
+/// Each union taken back, beside "union (4 + 4)": times are for both calls. Where the rows arena or the oracle is timed, which check
+/// nothing, it is the two calls alone.
+pub fn union_and_undo(n: usize, most: usize) -> Batch {
+    let bed = Bed::new(n, n / 2, 4);
+    let keys = keys(&bed);
+    let runs = keys.len() / 4;
+    let count = most.min(runs / 4).max(1);
+    let pair = |i: usize| Call::Union(keys[2 * i % runs], keys[(2 * i + 1) % runs + runs]);
+    Batch {
+        name: "union, then undo (4 + 4)",
+        bed,
+        calls: (0..count).flat_map(|i| [pair(i), Call::Undo]).collect(),
+        per: count,
+    }
+}
+
 /// One batch for each call that goes through a whole table: times are for each frame.
 pub fn whole_calls(n: usize) -> Vec<Batch> {
     let rings = || Bed::new(n, n, 4);
@@ -116,11 +137,22 @@ pub fn whole_calls(n: usize) -> Vec<Batch> {
         batch("seal, one ring", ring(), Call::Seal(first)),
         batch("drain, one ring", ring(), Call::Drain(first)),
         batch("remove_shared, one ring", ring(), Call::RemoveShared(first)),
+        batch("undo, halves of one ring", halves(n), Call::Undo),
         batch("drain_all", rings(), Call::DrainAll),
         batch("clear", rings(), Call::Clear),
         batch("compress_canonical", rings(), Call::CompressCanonical { reset: 0 }),
         batch("compress_with", rings(), Call::CompressWith { reset: 0 }),
     ]
+}
+
+/// Full tables with one ring, of two equal ones that were joined, which can be undone.
+fn halves(n: usize) -> Bed {
+    let mut bed = Bed::new(n, n, n / 2);
+    let key = |slot: u64| Key { slot, generation: 1 };
+    for side in [Side::Rows, Side::Oracle] {
+        bed.make(side, &[Call::Union(key(1), key(2))]);
+    }
+    bed
 }
 
 /// Compression of full tables: rings of one, one ring in shuffled order, and the longest follow. Times are for each frame.
@@ -176,8 +208,9 @@ pub fn unions(n: usize) -> Batch {
     Batch { name: "union to one ring", bed, calls, per }
 }
 
-/// The check on full tables: rings of one, rings of four, one ring, in order and shuffled; on tables with half of the slots
-/// on the free chains, in order and shuffled; and on fresh tables.
+/// The check on full tables: rings of one, rings of four, one ring, in order and shuffled; one ring of two that were joined, without
+/// what the head remembers of that and with it, which is the most that it can be; on tables with half of the slots on the free
+/// chains, in order and shuffled; and on fresh tables.
 pub fn checks(n: usize) -> Vec<Batch> {
     let batch = |name, bed, shuffled: bool| {
         // a check of few slots takes about as long as reading the clock
@@ -193,6 +226,13 @@ pub fn checks(n: usize) -> Vec<Batch> {
         free_half(&mut batch.bed, shuffled);
         batch
     };
+    let halves = |name, shuffled, remembered: bool| {
+        let mut batch = batch(name, halves(n), shuffled);
+        if !remembered {
+            batch.bed.host.head[HEAD - 4..].fill(0);
+        }
+        batch
+    };
     vec![
         batch("fresh", Bed::new(n, 0, 1), false),
         batch("rings of one", Bed::new(n, n, 1), false),
@@ -200,6 +240,10 @@ pub fn checks(n: usize) -> Vec<Batch> {
         batch("rings of four, shuffled", Bed::new(n, n, 4), true),
         batch("one ring", Bed::new(n, n, n), false),
         batch("one ring, shuffled", Bed::new(n, n, n), true),
+        halves("joined ring", false, false),
+        halves("joined ring, to undo", false, true),
+        halves("joined ring, shuffled", true, false),
+        halves("the same, to undo", true, true),
         freed("half free", false),
         freed("half free, shuffled", true),
     ]
@@ -212,6 +256,10 @@ fn shuffle(bed: &mut Bed) {
     mix(&mut to);
     let old = bed.host.elems.clone();
     let moved = |slot: u64| to[slot as usize - 1] as u64 + 1;
+    let [kept, gone, ..] = &mut bed.host.head[HEAD - 4..] else { unreachable!() };
+    if *kept != 0 {
+        (*kept, *gone) = (moved(*kept), moved(*gone));
+    }
     for (row, &at) in old.chunks(FRAME).zip(&to) {
         let new = &mut bed.host.elems[at * FRAME..][..FRAME];
         new.copy_from_slice(row);

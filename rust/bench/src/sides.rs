@@ -4,7 +4,7 @@ use archive::Host;
 use doorsedge::sys::LentHead;
 use doorsedge::{Key as Frame, Writer};
 use model::door::{self, Call};
-use model::{Head, Key, PAIR, PLACE, RECORD, Rows, SEAL_PLACE, check};
+use model::{Head, Key, Memory, PAIR, PLACE, RECORD, Rows, SEAL_PLACE, check};
 use std::hint::black_box;
 use std::num::{NonZeroU32, NonZeroUsize};
 use triple_arena::traits::*;
@@ -68,6 +68,8 @@ impl Bed {
         let mut head = Head::of(&bed.host.head);
         let mut rows = Rows { head: &mut head, elems: &mut bed.host.elems, shared: &mut bed.host.shared };
         make(&mut rows, &mut bed.oracle);
+        // the host's calls drop what the head remembers of a union, the rows arena's alone do not
+        head.undo = Memory::default();
         bed.host.head = head.numbers();
         bed
     }
@@ -211,6 +213,7 @@ fn step(rows: &mut Rows, call: &Call, lent: &mut [u64]) -> Option<u64> {
             rows.insert(k, payload, size).ok().map(|key| key.slot)
         }
         Call::Union(j, k) => rows.union(j, k).ok().map(|joined| joined.was),
+        Call::Undo => rows.undo().ok().map(|_| 0),
         Call::RemoveElement(k) | Call::RemoveInPlace(k) => rows.remove_element(k).ok().map(|out| out.payload),
         Call::RemoveShared(k) => rows.remove_shared(k).ok().map(|(value, _)| value),
         Call::List(k) => rows.list(k, lent).ok(),
@@ -251,6 +254,11 @@ fn ask(a: &mut Oracle, call: &Call, lent: &mut [u64]) -> Option<u64> {
             a.insert_within_capacity(ptr(k), payload).ok()?.inx().get() as u64
         }
         Call::Union(j, k) => a.union(ptr(j), ptr(k))?.0,
+        // the oracle has no undo: a host would take a clone before each union, and that alone is timed
+        Call::Undo => {
+            *a = a.clone();
+            0
+        }
         Call::RemoveElement(k) | Call::RemoveInPlace(k) => a.remove_element(ptr(k)).allow()?.0,
         Call::RemoveShared(k) => a.remove_shared(ptr(k)).allow()?,
         Call::List(k) => {

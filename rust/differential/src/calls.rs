@@ -22,6 +22,8 @@ pub enum Call {
     /// At the first; the frame that is put in is the second, with its payload and size.
     Insert(Name, Name, u64, u32),
     Union(Name, Name),
+    /// On the archive alone: the oracle is then what it was before the union.
+    Undo,
     RemoveElement(Name),
     RemoveShared(Name),
     List(Name),
@@ -37,7 +39,7 @@ pub enum Call {
     GetTotal(Name),
 }
 
-pub const KINDS: [&str; 24] = [
+pub const KINDS: [&str; 25] = [
     "fresh",
     "check",
     "len_surject",
@@ -62,6 +64,7 @@ pub const KINDS: [&str; 24] = [
     "lookup",
     "get_size",
     "get_total",
+    "undo",
 ];
 
 impl Call {
@@ -92,6 +95,7 @@ impl Call {
             Call::Lookup(_) => 21,
             Call::GetSize(_) => 22,
             Call::GetTotal(_) => 23,
+            Call::Undo => 24,
         }
     }
 
@@ -115,8 +119,15 @@ impl Call {
             Call::InSameSurject(j, k) | Call::Union(j, k) => vec![j, k],
             Call::Exchange(keys, _) => keys.to_vec(),
             Call::Fresh | Call::Check | Call::InsertSurject(..) | Call::DrainAll | Call::Clear => vec![],
-            Call::Compress(_) | Call::CompressWith(_) => vec![],
+            Call::Compress(_) | Call::CompressWith(_) | Call::Undo => vec![],
         }
+    }
+
+    /// Whether a union before it can still be undone after it, accepted or not.
+    pub fn keeps_undo(&self) -> bool {
+        use Call::*;
+        let reads = matches!(self, Check | List(_) | Lookup(_) | LenSurject(_) | InSameSurject(..));
+        reads || matches!(self, Get(_) | GetShared(_) | GetSize(_) | GetTotal(_))
     }
 }
 
@@ -132,7 +143,7 @@ impl fmt::Display for Call {
     fn fmt(&self, f: &mut fmt::Formatter<'_>) -> fmt::Result {
         let kind = KINDS[self.kind()];
         match *self {
-            Call::Fresh | Call::Check | Call::DrainAll | Call::Clear => write!(f, "{kind}"),
+            Call::Fresh | Call::Check | Call::Undo | Call::DrainAll | Call::Clear => write!(f, "{kind}"),
             Call::LenSurject(k)
             | Call::Get(k)
             | Call::GetShared(k)

@@ -44,6 +44,7 @@ pub fn next_calls(live: &[Name], made: usize) -> Vec<Call> {
     let (payload, value) = (number(2 * made), number(2 * made + 1));
     let mut calls = vec![
         Call::InsertSurject(made, payload, value, bytes(made)),
+        Call::Undo,
         Call::DrainAll,
         Call::Clear,
         Call::Compress(false),
@@ -106,8 +107,8 @@ struct Mix([usize; KINDS.len()]);
 impl Mix {
     fn any(r: &mut Random) -> Mix {
         // fresh to get_shared; set, set_shared, exchange; new run, insert, union; removals; list, drains, clear, compress; seal;
-        // compress_with; lookup; get_size, get_total
-        let usual = [1, 3, 3, 3, 3, 3, 4, 4, 6, 14, 20, 12, 10, 3, 4, 2, 1, 1, 3, 2, 3, 3, 3, 3];
+        // compress_with; lookup; get_size, get_total; undo
+        let usual = [1, 3, 3, 3, 3, 3, 4, 4, 6, 14, 20, 12, 10, 3, 4, 2, 1, 1, 3, 2, 3, 3, 3, 3, 4];
         Mix(usual.map(|n| n * r.of(&[0, 1, 1, 1, 2, 6])))
     }
 
@@ -155,6 +156,10 @@ fn any_call(pair: &Pair, kind: usize, serial: usize, r: &mut Random) -> Call {
     if pair.oracle.is_empty() && r.below(4) > 0 {
         return Call::InsertSurject(serial, payload, value, bytes(serial));
     }
+    // a union that can be undone is soon dropped by another call
+    if pair.before.is_some() && r.below(5) == 0 {
+        return Call::Undo;
+    }
     match kind {
         0 => Call::Fresh,
         1 => Call::Check,
@@ -179,7 +184,8 @@ fn any_call(pair: &Pair, kind: usize, serial: usize, r: &mut Random) -> Call {
         20 => Call::CompressWith(r.below(3) == 0),
         21 => Call::Lookup(k),
         22 => Call::GetSize(k),
-        _ => Call::GetTotal(k),
+        23 => Call::GetTotal(k),
+        _ => Call::Undo,
     }
 }
 
@@ -212,6 +218,25 @@ fn balanced(n: usize, r: &mut Random) -> Vec<Call> {
         gap *= 2;
     }
     calls.extend([Call::List(r.below(n)), Call::Compress(false), Call::List(r.below(n)), Call::DrainAll]);
+    calls
+}
+
+/// The same, where each union is taken back and made again, often with the keys the other way round, or with other frames of the two
+/// runs; and now and then a read or a set comes between.
+fn taken_back(n: usize, r: &mut Random) -> Vec<Call> {
+    let mut calls = new_runs(n);
+    let mut gap = 1;
+    while gap < n {
+        for start in (0..n - gap).step_by(2 * gap) {
+            let (j, k) = (start + r.below(gap), start + gap + r.below(gap.min(n - start - gap)));
+            let mut both = [Call::Union(j, k), Call::Union(k, j), Call::Union(start, start + gap)];
+            both.rotate_left(r.below(3));
+            let between = r.of(&[Call::Check, Call::List(j), Call::Undo, Call::Set(k, number(2 * k))]);
+            calls.extend([both[0], between, Call::Undo, both[1]]);
+        }
+        gap *= 2;
+    }
+    calls.extend([Call::Undo, Call::Compress(false), Call::Undo, Call::DrainAll]);
     calls
 }
 
@@ -370,6 +395,7 @@ pub fn adversarial(seed: u64, largest: usize) -> Vec<(&'static str, Case)> {
         let mut add = |name, calls| cases.push((name, Case { elems: size, shared: size, calls, stride }));
         add("balanced unions", balanced(size, r));
         add("balanced unions", balanced(size - size / 5, r));
+        add("unions taken back", taken_back(size, r));
         add("one big ring", one_ring(size, r));
         add("churn", churn(size, 12, r));
         add("displaced headers", displaced(size * 3 / 4, r));

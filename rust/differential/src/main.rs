@@ -9,6 +9,7 @@ mod calls;
 mod causes;
 mod compare;
 mod generate;
+mod joins;
 mod ordered;
 mod pair;
 mod run;
@@ -31,7 +32,7 @@ struct Args {
     fault: Fault,
 }
 
-const USAGE: &str = "usage: differential [CASES] [SEED] [--length N] [--fault equal|run|map|further|seal|ring|pairs|headers|cause|size|sizes]";
+const USAGE: &str = "usage: differential [CASES] [SEED] [--length N] [--fault equal|run|map|further|seal|ring|pairs|headers|cause|size|sizes|undo|kept]";
 
 fn args() -> Option<Args> {
     let mut args = Args { cases: 20_000, seed: 1, length: 5, fault: Fault::None };
@@ -52,6 +53,8 @@ fn args() -> Option<Args> {
                     "cause" => Fault::KeysSwapped,
                     "size" => Fault::SizeOff,
                     "sizes" => Fault::SizesCrossed,
+                    "undo" => Fault::UndoneValue,
+                    "kept" => Fault::SetKeepsUndo,
                     _ => return None,
                 }
             }
@@ -131,9 +134,13 @@ fn summary(args: &Args, way: &Way, progress: &Progress) {
     let tally = &progress.tally;
     let against = if cfg!(feature = "mock") { "the MOCK, not the proved archive" } else { "the archive" };
     println!("Differential run: the Rust (three files over a stand-in) against {against}");
-    println!("{:<20}{:>12}{:>12}{:>12}{:>12}", "call", "accepted", "refused 3", "refused 4", "refused 12");
+    print!("{:<20}", "call");
+    ["accepted", "refused 3", "refused 4", "refused 12", "refused 10"].iter().for_each(|column| print!("{column:>12}"));
+    println!();
     for (name, counts) in KINDS.iter().zip(tally.calls) {
-        println!("{name:<20}{:>12}{:>12}{:>12}{:>12}", counts[0], counts[1], counts[2], counts[3]);
+        print!("{name:<20}");
+        counts.iter().for_each(|count| print!("{count:>12}"));
+        println!();
     }
     println!(
         "{:<20}{:>12} in {} sequences, all frames compared {} times",

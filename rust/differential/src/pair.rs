@@ -1,6 +1,7 @@
 //! Both sides, and the map between their keys. Each call is made on both, and what they answer is compared.
 
 use crate::calls::{Call, Case, KINDS, NEVER, Name};
+use crate::joins::{Before, remember};
 use crate::seal::refused_12;
 use doorsedge::{Arena, FRAME, Key, Record, Refusal};
 use std::collections::HashSet;
@@ -48,14 +49,18 @@ pub enum Fault {
     SizeOff,
     /// A canonical compression leaves the first run of two or more with the sizes of two frames exchanged.
     SizesCrossed,
+    /// An undo leaves the run that comes back under the other's shared value.
+    UndoneValue,
+    /// A set leaves the union before it to be undone.
+    SetKeepsUndo,
 }
 
 /// What was met.
 #[derive(Clone, Copy, Default, Debug)]
 pub struct Tally {
     pub sequences: u64,
-    /// By kind: accepted, dead, same class, sealed.
-    pub calls: [[u64; 4]; KINDS.len()],
+    /// By kind: accepted, dead, same class, sealed, nothing to undo.
+    pub calls: [[u64; 5]; KINDS.len()],
     /// The dead ones by their cause.
     pub causes: [u64; 3],
     pub longest_ring: u64,
@@ -80,6 +85,8 @@ pub struct Pair {
     pub ordered: bool,
     pub fault: Fault,
     pub tally: Tally,
+    /// Both sides as they were before the union that can be undone.
+    pub before: Option<Before>,
     /// What the oracle said of the last union: the removed value, the frame kept, the frames that changed their run.
     pub joined: (u64, Name, u64),
 }
@@ -110,6 +117,7 @@ impl Pair {
             ordered,
             fault,
             tally: Tally::default(),
+            before: None,
             joined: (0, NEVER, 0),
         }
     }
@@ -203,6 +211,7 @@ impl Pair {
         let refusal = match *call {
             Call::InsertSurject(..) | Call::Insert(..) | Call::Fresh => self.put_in(call)?,
             Call::Union(j, k) => self.union(j, k)?,
+            Call::Undo => self.undo()?,
             Call::Seal(k) => self.seal(k)?,
             Call::RemoveElement(_) | Call::RemoveShared(_) | Call::Drain(_) => self.take_out(call)?,
             Call::DrainAll | Call::Clear | Call::Compress(_) => self.on_all(call)?,
@@ -219,8 +228,12 @@ impl Pair {
             }
             Some(Refusal::SameClass) => 2,
             Some(Refusal::Sealed) => 3,
+            Some(Refusal::Nothing) => 4,
             Some(other) => return Err(format!("the archive says {other}")),
         };
+        if refusal.is_none() && !matches!(call, Call::Union(..)) && !call.keeps_undo() {
+            self.before = None;
+        }
         self.tally.calls[call.kind()][column] += 1;
         Ok(())
     }
@@ -267,7 +280,11 @@ impl Pair {
                 Ok(said.err())
             }
             Call::Set(k, payload) => {
+                let memory = *port.head();
                 let said = port.set(keys(k).0, payload);
+                if self.fault == Fault::SetKeepsUndo {
+                    remember(port, &memory);
+                }
                 let old = oracle.get_mut(keys(k).1).map(|t| std::mem::replace(&mut t.0, payload));
                 same("old payload", said, old.ok_or(dead))?;
                 if said.is_ok() {
@@ -360,42 +377,6 @@ impl Pair {
                 }
             }
             _ => unreachable!("nothing is put in"),
-        }
-    }
-
-    fn union(&mut self, j: Name, k: Name) -> Result<Option<Refusal>, String> {
-        let ((key0, ptr0), (key1, ptr1)) = (self.keys(j), self.keys(k));
-        let sizes = (self.oracle.len_surject(ptr0), self.oracle.len_surject(ptr1));
-        let (equal, dead) = (sizes.0.is_some() && sizes.0 == sizes.1, self.dead(&[j, k]));
-        let classes = |port: &Arena| port.elems().chunks(FRAME).map(|row| row[2]).collect::<Vec<_>>();
-        let before = classes(&self.port);
-        let said = match self.fault {
-            Fault::EqualSwapped if equal => self.port.union(key1, key0),
-            _ => self.port.union(key0, key1),
-        };
-        let apart = self.oracle.in_same_surject(ptr0, ptr1) == Some(false);
-        if apart && (self.is_sealed(j) || self.is_sealed(k)) {
-            return refused_12("union", said.err());
-        }
-        match (said, self.oracle.union(ptr0, ptr1)) {
-            (Ok(joined), Some((was, kept))) => {
-                same("union's value", joined.was, was)?;
-                same("union's kept frame", self.name_of_key(joined.kept), self.name_of_ptr(kept))?;
-                let smaller = sizes.0.unwrap().min(sizes.1.unwrap()).get() as u64;
-                same("union's number of entries rewritten", joined.moved, smaller)?;
-                let after = classes(&self.port);
-                let differing = before.iter().zip(&after).filter(|(a, b)| a != b).count() as u64;
-                same("class entries that differ", differing, joined.moved)?;
-                self.tally.largest_union = self.tally.largest_union.max(joined.moved);
-                self.joined = (was, self.name_of_ptr(kept), smaller);
-                Ok(None)
-            }
-            (Err(refusal), None) => {
-                let live = sizes.0.is_some() && sizes.1.is_some();
-                same("union's refusal", refusal, if live { Refusal::SameClass } else { dead })?;
-                Ok(Some(refusal))
-            }
-            (said, oracle) => Err(format!("union: archive {said:?}, oracle {oracle:?}")),
         }
     }
 

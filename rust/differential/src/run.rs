@@ -117,7 +117,8 @@ fn renamed(case: &Case) -> Case {
         Call::Lookup(k) => Call::Lookup(name(k)),
         Call::GetSize(k) => Call::GetSize(name(k)),
         Call::GetTotal(k) => Call::GetTotal(name(k)),
-        Call::Fresh | Call::Check | Call::DrainAll | Call::Clear | Call::Compress(_) | Call::CompressWith(_) => *call,
+        Call::Fresh | Call::Check | Call::Undo | Call::DrainAll | Call::Clear => *call,
+        Call::Compress(_) | Call::CompressWith(_) => *call,
     });
     Case { calls: calls.collect(), ..case.clone() }
 }

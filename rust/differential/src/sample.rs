@@ -23,8 +23,8 @@
 //! | 18 compress_canonical | | 1 for a reset, else 0 | |
 //!
 //! A frame's payload is its name whenever tables are compressed, so that keys can be learned again from payloads. Seals,
-//! compressions in slot order, lookups and reads of sizes and totals are not in a sample, and causes neither: the program that
-//! replays it knows none. Every frame's size is 0, and stands in no record.
+//! compressions in slot order, lookups, reads of sizes and totals and undos are not in a sample, and causes neither: the program
+//! that replays it knows none. Every frame's size is 0, and stands in no record.
 
 use crate::calls::{Call, Case, NEVER, Name};
 use crate::generate::{Random, apart};
@@ -170,7 +170,7 @@ fn push(bytes: &mut Vec<u8>, call: &Call, refusal: u64, answers: &[u64]) {
         Call::RemoveElement(k) | Call::RemoveShared(k) | Call::List(k) | Call::Drain(k) => (&[*k], &[]),
         Call::Compress(reset) => (&[], &[*reset as u64]),
         Call::Fresh | Call::Check | Call::DrainAll | Call::Clear => (&[], &[]),
-        Call::Seal(_) | Call::CompressWith(_) | Call::Lookup(_) | Call::GetSize(_) | Call::GetTotal(_) => {
+        Call::Seal(_) | Call::CompressWith(_) | Call::Lookup(_) | Call::GetSize(_) | Call::GetTotal(_) | Call::Undo => {
             unreachable!("a sample has no such call")
         }
     };

@@ -94,7 +94,7 @@ pub unsafe extern "C" fn doorsedge_check(
 
 #[unsafe(no_mangle)]
 pub unsafe extern "C" fn doorsedge_exchange_shared4(
-    head: *const u64,
+    head: *mut u64,
     elems: *const u64,
     elems_len: usize,
     shared: *mut u64,
@@ -124,6 +124,18 @@ pub unsafe extern "C" fn doorsedge_lookup(
 ) -> u64 {
     let (call, none) = (Call::Lookup(key(slot, generation)), std::ptr::null_mut());
     unsafe { enter(head, elems, elems_len, shared, shared_len, call, none, 0, none) }
+}
+
+#[unsafe(no_mangle)]
+pub unsafe extern "C" fn doorsedge_undo(
+    head: *mut u64,
+    elems: *mut u64,
+    elems_len: usize,
+    shared: *mut u64,
+    shared_len: usize,
+) -> u64 {
+    let none = std::ptr::null_mut();
+    unsafe { enter(head, elems, elems_len, shared, shared_len, Call::Undo, none, 0, none) }
 }
 
 entry!(doorsedge_len_surject(slot, generation) => Call::LenSurject(key(slot, generation)));

@@ -3,6 +3,7 @@
 //! Slots ascending: a live one whose class is not yet marked begins a ring, which is walked once. Where previous undoes
 //! next, a walk that closes meets no frame twice. The free chains have as many slots as the extents leave after the live
 //! numbers, so where as many frames and rings were met as those numbers say, every slot was met (ticket 4 of document 02).
+//! Where the head remembers a union, so many steps along next must lead from the kept key to the other (ticket 7).
 
 use crate::layout::*;
 
@@ -16,6 +17,7 @@ pub fn sound(head: &Head, elems: &[u64], shared: &[u64]) -> bool {
         && chain_ok(&head.shared, shared, HEADER, NEXT_FREE)
         && chain_ok(&head.elems, elems, FRAME, NEXT)
         && rings_ok(head, elems, shared)
+        && (head.undo == Memory::default() || is_traced(head, elems, shared))
 }
 
 fn in_range(generation: u64) -> bool {
@@ -123,4 +125,16 @@ fn ring_bytes(elems: &[u64], extent: u64, start: u64, class: u64, count: u64) ->
         }
         slot = next;
     }
+}
+
+/// Of a state that is sound but for what the head remembers: a union of runs that were not sealed, the larger one kept, joins the
+/// frames that moved after the kept key, the other key last, and frees a shared slot.
+fn is_traced(head: &Head, elems: &[u64], shared: &[u64]) -> bool {
+    let Memory { kept, gone, moved, .. } = head.undo;
+    if kept == 0 || kept > head.elems.extent || frame(elems, kept)[GENERATION] == 0 || head.shared.root == 0 {
+        return false;
+    }
+    let header = &shared[(frame(elems, kept)[CLASS] as usize - 1) * HEADER..][..HEADER];
+    let fits = moved != 0 && moved <= header[COUNT] / 2 && header[MARK] == 0;
+    fits && (0..moved).fold(kept, |slot, _| frame(elems, slot)[NEXT]) == gone
 }

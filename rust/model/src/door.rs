@@ -28,6 +28,7 @@ pub enum Call {
     /// At the key: payload and size.
     Insert(Key, u64, u32),
     Union(Key, Key),
+    Undo,
     RemoveElement(Key),
     /// Insert and removal with the head lent in place: the same calls by other entries.
     InsertInPlace(Key, u64, u32),
@@ -47,7 +48,7 @@ pub enum Call {
 }
 
 /// How many kinds of calls there are.
-pub const KINDS: usize = 26;
+pub const KINDS: usize = 27;
 
 impl Call {
     /// The entry's name in C, without its prefix; and how many numbers its `out` has.
@@ -68,6 +69,7 @@ impl Call {
             Call::InsertSurject { .. } => ("insert_surject", 2),
             Call::Insert(..) => ("insert", 2),
             Call::Union(..) => ("union", 4),
+            Call::Undo => ("undo", 0),
             Call::RemoveElement(_) => ("remove_element", 4),
             Call::InsertInPlace(..) => ("insert_in_place", 2),
             Call::RemoveInPlace(_) => ("remove_in_place", 4),
@@ -80,6 +82,23 @@ impl Call {
             Call::CompressCanonical { .. } => ("compress_canonical", 1),
             Call::CompressWith { .. } => ("compress_with", 2),
         }
+    }
+
+    /// Whether the head remembers a union over it: a read, a list, a lookup or the check.
+    pub fn keeps_memory(&self) -> bool {
+        use Call::*;
+        matches!(
+            self,
+            Check
+                | Lookup(_)
+                | LenSurject(_)
+                | InSameSurject(..)
+                | Get(_)
+                | GetShared(_)
+                | GetSize(_)
+                | GetTotal(_)
+                | List(_)
+        )
     }
 }
 
@@ -141,8 +160,17 @@ pub fn enter<T>(
     call(&mut Rows { head, elems, shared })
 }
 
-/// The call on a sound state, its answer as the numbers of `out`.
+/// The call on a sound state, its answer as the numbers of `out`. Accepted, it leaves the head to remember nothing, but for the
+/// calls that keep what it remembers, and union, which has it remember that one.
 pub fn said(rows: &mut Rows, call: &Call, lent: &mut [u64]) -> Result<[u64; 4], Refusal> {
+    let values = answered(rows, call, lent)?;
+    if !call.keeps_memory() && !matches!(call, Call::Union(..)) {
+        rows.head.undo = Memory::default();
+    }
+    Ok(values)
+}
+
+fn answered(rows: &mut Rows, call: &Call, lent: &mut [u64]) -> Result<[u64; 4], Refusal> {
     let one = |n: u64| [n, 0, 0, 0];
     let key = |k: Key| [k.slot, k.generation, 0, 0];
     Ok(match *call {
@@ -164,6 +192,7 @@ pub fn said(rows: &mut Rows, call: &Call, lent: &mut [u64]) -> Result<[u64; 4], 
             let joined = rows.union(j, k)?;
             [joined.was, joined.kept.slot, joined.kept.generation, joined.moved]
         }
+        Call::Undo => rows.undo().map(|_| [0; 4])?,
         Call::RemoveElement(k) | Call::RemoveInPlace(k) => {
             let out = rows.remove_element(k)?;
             [out.payload, out.value.is_some() as u64, out.value.unwrap_or(0), out.overflow as u64]

@@ -1,7 +1,7 @@
 //! Head, keys, refusals, and how the numbers lie in the tables.
 
 /// Numbers to a head.
-pub const HEAD: usize = 9;
+pub const HEAD: usize = 13;
 /// Numbers to an element slot: generation, payload, class, previous, next, size.
 pub const FRAME: usize = 6;
 /// Numbers to a shared slot: count, value, next free, mark, total.
@@ -49,6 +49,20 @@ pub struct Head {
     pub elems: Pool,
     pub shared: Pool,
     pub generation: u64,
+    pub undo: Memory,
+}
+
+/// What is needed to take the last union back: document 02, ticket 7. Zeros where there is nothing to undo.
+#[derive(Clone, Copy, PartialEq, Eq, Debug, Default)]
+pub struct Memory {
+    /// The slot of the key whose run was kept.
+    pub kept: u64,
+    /// The slot of the other key.
+    pub gone: u64,
+    /// How many frames changed their run.
+    pub moved: u64,
+    /// The shared value that was removed.
+    pub value: u64,
 }
 
 #[derive(Clone, Copy, PartialEq, Eq, Debug)]
@@ -75,6 +89,7 @@ pub enum Refusal {
     NoElement,
     NoShared,
     Short,
+    Nothing,
     Sealed,
 }
 
@@ -89,6 +104,7 @@ impl Refusal {
             Refusal::NoElement => 5,
             Refusal::NoShared => 6,
             Refusal::Short => 7,
+            Refusal::Nothing => 10,
             Refusal::Sealed => 12,
         }
     }
@@ -115,21 +131,27 @@ impl Pool {
 
 impl Head {
     pub fn fresh(elems: u64, shared: u64) -> Head {
-        Head { elems: Pool::fresh(elems), shared: Pool::fresh(shared), generation: 1 }
+        Head { elems: Pool::fresh(elems), shared: Pool::fresh(shared), generation: 1, undo: Memory::default() }
     }
 
     pub fn of(numbers: &[u64; HEAD]) -> Head {
-        let [capacity, extent, root, live, capacity1, extent1, root1, live1, generation] = *numbers;
+        let [capacity, extent, root, live, capacity1, extent1, root1, live1, generation, kept, gone, moved, value] =
+            *numbers;
         Head {
             elems: Pool { capacity, extent, root, live },
             shared: Pool { capacity: capacity1, extent: extent1, root: root1, live: live1 },
             generation,
+            undo: Memory { kept, gone, moved, value },
         }
     }
 
     pub fn numbers(&self) -> [u64; HEAD] {
-        let (e, s) = (self.elems, self.shared);
-        [e.capacity, e.extent, e.root, e.live, s.capacity, s.extent, s.root, s.live, self.generation]
+        let (e, s, m) = (self.elems, self.shared, self.undo);
+        let pools = [e.capacity, e.extent, e.root, e.live, s.capacity, s.extent, s.root, s.live];
+        let mut numbers = [0; HEAD];
+        numbers[..8].copy_from_slice(&pools);
+        numbers[8..].copy_from_slice(&[self.generation, m.kept, m.gone, m.moved, m.value]);
+        numbers
     }
 
     /// What a compression gives to all frames: 1 with a reset, which says no overflow, else the next generation.
@@ -155,6 +177,13 @@ impl Head {
         self.generation = if over { 1 } else { self.generation + 1 };
         over
     }
+}
+
+/// A head's numbers where there is nothing to undo.
+pub fn head(numbers: [u64; HEAD - 4]) -> [u64; HEAD] {
+    let mut head = [0; HEAD];
+    head[..HEAD - 4].copy_from_slice(&numbers);
+    head
 }
 
 /// Refusals 1: a capacity is in its range and the table as long as it asks.

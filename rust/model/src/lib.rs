@@ -7,17 +7,21 @@
 //! - [rows]: the calls on a sound state
 //! - [whole]: the calls on a whole ring or on all of them
 //! - [ordered]: compression in slot order
+//! - [undo]: the last union taken back
 //! - [check]: the soundness check, linear
 //! - [sets]: soundness sentence by sentence, by sets, to test the check with
+//! - [described]: the sentence of soundness about what the head remembers, by taking the union back and making it again
 //! - [door]: the host's calls: shape and soundness first
 
 pub mod check;
+pub mod described;
 pub mod door;
 pub mod layout;
 pub mod ordered;
 pub mod rows;
 pub mod sets;
+pub mod undo;
 pub mod whole;
 
-pub use layout::{Cause, FRAME, HEAD, HEADER, Head, Key, PAIR, PLACE, Pool, RECORD, Refusal, SEAL_PLACE};
+pub use layout::{Cause, FRAME, HEAD, HEADER, Head, Key, Memory, PAIR, PLACE, Pool, RECORD, Refusal, SEAL_PLACE};
 pub use rows::{Joined, Removed, Rows};

@@ -90,7 +90,7 @@ impl Rows<'_> {
         root
     }
 
-    fn take_shared(&mut self) -> u64 {
+    pub(crate) fn take_shared(&mut self) -> u64 {
         self.head.shared.live += 1;
         let root = self.head.shared.root;
         if root == 0 {
@@ -240,6 +240,7 @@ impl Rows<'_> {
         self.put_header(c, TOTAL, self.header(c, TOTAL) + self.header(d, TOTAL));
         let was = self.header(d, VALUE);
         self.free_shared(d);
+        self.head.undo = Memory { kept: x, gone: y, moved, value: was };
         Ok(Joined { was, kept, moved })
     }
 

@@ -1,11 +1,17 @@
 //! Soundness sentence by sentence, as document 01's "Tables and head" has it, and document 02's tickets 1 of the mark, 4
-//! of the free chain and 6 of sizes and totals, by sets: slow, and no algorithm in it.
+//! of the free chain, 6 of sizes and totals and 7 of what the head remembers, by sets: slow, and no algorithm in it.
 
+use crate::described::remembers;
 use crate::layout::*;
 use std::collections::{BTreeMap, BTreeSet};
 
 /// Whether a state of fitting shape is sound.
 pub fn sound(head: &Head, elems: &[u64], shared: &[u64]) -> bool {
+    in_tables(head, elems, shared) && remembers(head, elems, shared)
+}
+
+/// The sentences of the tables and of the head's other numbers.
+pub(crate) fn in_tables(head: &Head, elems: &[u64], shared: &[u64]) -> bool {
     let (e, s) = (Side::new(&head.elems, elems, FRAME, NEXT), Side::new(&head.shared, shared, HEADER, NEXT_FREE));
     // the generation is in range; each extent is at most its capacity
     if !in_range(head.generation) || e.pool.extent > e.pool.capacity || s.pool.extent > s.pool.capacity {

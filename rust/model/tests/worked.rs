@@ -1,12 +1,12 @@
 //! Document 01's worked numbers, P1 to P12, and its traps, on the model.
 
 use model::door::{Call, run};
-use model::layout::{MARK, SIZE, TOTAL};
-use model::{FRAME, HEADER, Key, PAIR, SEAL_PLACE, check, sets};
+use model::layout::{MARK, SIZE, TOTAL, head};
+use model::{FRAME, HEAD, HEADER, Key, PAIR, SEAL_PLACE, check, sets};
 
 #[derive(Clone)]
 struct Host {
-    head: [u64; 9],
+    head: [u64; HEAD],
     elems: Vec<u64>,
     shared: Vec<u64>,
 }
@@ -14,7 +14,7 @@ struct Host {
 impl Host {
     fn fresh(elems: u64, shared: u64) -> Host {
         let mut host =
-            Host { head: [0; 9], elems: vec![7; elems as usize * FRAME], shared: vec![7; shared as usize * HEADER] };
+            Host { head: [0; HEAD], elems: vec![7; elems as usize * FRAME], shared: vec![7; shared as usize * HEADER] };
         assert_eq!(host.call(Call::Fresh { elems, shared }), (0, vec![]));
         host
     }
@@ -79,7 +79,7 @@ fn p1_to_p10() {
     assert_eq!(host.lent(Call::CompressCanonical { reset: 0 }, &mut scratch), (0, vec![0]));
     assert_eq!(scratch[..4 * FRAME], [0; 4 * FRAME]);
     assert_eq!(scratch[4 * FRAME], 9);
-    assert_eq!(host.head, [4, 0, 0, 0, 3, 0, 0, 0, 7]);
+    assert_eq!(host.head, head([4, 0, 0, 0, 3, 0, 0, 0, 7]));
     assert!(host.elems.iter().chain(&host.shared).all(|&n| n == 0));
 }
 
@@ -99,7 +99,7 @@ fn p11_and_p12() {
     assert_eq!(host.lent(Call::CompressCanonical { reset: 0 }, &mut [0; 4 * FRAME]), (0, vec![0]));
     assert_eq!(host.elems[..2 * FRAME], [3, 21, 1, 2, 2, 0, 3, 20, 1, 1, 1, 0]);
     assert_eq!(host.shared, [[2, 200, 0, 0, 0], [0; HEADER], [0; HEADER]].concat());
-    assert_eq!(host.head, [4, 2, 0, 2, 3, 1, 0, 1, 3]);
+    assert_eq!(host.head, head([4, 2, 0, 2, 3, 1, 0, 1, 3]));
 
     let mut host = Host::fresh(4, 3);
     host.head[8] = 4_294_967_295;
@@ -112,7 +112,7 @@ fn p11_and_p12() {
 #[test]
 fn mixed_rings_are_unsound() {
     let mut host = Host {
-        head: [4, 4, 0, 4, 3, 2, 0, 2, 1],
+        head: head([4, 4, 0, 4, 3, 2, 0, 2, 1]),
         elems: [[1, 0, 1, 2, 2, 0], [1, 0, 2, 1, 1, 0], [1, 0, 1, 4, 4, 0], [1, 0, 2, 3, 3, 0]].concat(),
         shared: [[2, 0, 0, 0, 0], [2, 0, 0, 0, 0], [0; HEADER]].concat(),
     };
@@ -230,7 +230,7 @@ fn compress_with() {
     let rows = [[4, 22, 1, 2, 2, 0], [4, 21, 1, 1, 1, 0], [4, 30, 2, 3, 3, 0]];
     assert_eq!(host.elems[..3 * FRAME], rows.concat());
     assert_eq!(host.shared, [[2, 200, 0, 0, 0], [1, 300, 0, 1, 0], [0; HEADER], [0; HEADER]].concat());
-    assert_eq!((host.head, &host.elems[3 * FRAME..]), ([5, 3, 0, 3, 4, 2, 0, 2, 4], &[0; 2 * FRAME][..]));
+    assert_eq!((host.head, &host.elems[3 * FRAME..]), (head([5, 3, 0, 3, 4, 2, 0, 2, 4]), &[0; 2 * FRAME][..]));
     let mut reset = before;
     reset.head[8] = 4_294_967_295;
     let mut over = reset.clone();
@@ -239,7 +239,7 @@ fn compress_with() {
     assert_eq!((reset.head[8], over.head[8], reset.elems), (1, 1, over.elems));
     let mut empty = Host::fresh(1, 1);
     assert_eq!(empty.call(Call::CompressWith { reset: 0 }), (0, vec![0, 0]));
-    assert_eq!(empty.head, [1, 0, 0, 0, 1, 0, 0, 0, 2]);
+    assert_eq!(empty.head, head([1, 0, 0, 0, 1, 0, 0, 0, 2]));
 }
 
 /// P11's state comes out alike under both compressions, pairs aside. With a run more, whose header stands before, it does not.
@@ -313,6 +313,53 @@ fn sizes_and_totals_that_are_unsound() {
     }
 }
 
+/// Document 02's ticket 7: P4's union taken back, number for number; nothing to undo after it, nor after a set of the same payload.
+#[test]
+fn undo() {
+    let mut host = Host::fresh(4, 3);
+    assert_eq!(host.call(Call::Undo), (10, vec![]));
+    for call in [new_run(10, 100), Call::Insert(key(1, 1), 11, 0), Call::Insert(key(1, 1), 12, 0), new_run(20, 200)] {
+        assert_eq!(host.call(call).0, 0);
+    }
+    let before = host.clone();
+    assert_eq!(host.call(Call::Union(key(4, 1), key(1, 1))), (0, vec![200, 1, 1, 1]));
+    assert_eq!(host.head, [4, 4, 0, 4, 3, 2, 2, 1, 1, 1, 4, 1, 200]);
+    for call in [Call::Check, Call::Get(key(4, 1)), Call::Lookup(key(4, 1)), Call::Set(key(4, 2), 21)] {
+        host.call(call);
+    }
+    assert_eq!(host.ring(key(1, 1)), [1, 4, 3, 2]);
+    let mut set = host.clone();
+    assert_eq!(host.call(Call::Undo), (0, vec![]));
+    assert_eq!((host.head, &host.elems, &host.shared), (before.head, &before.elems, &before.shared));
+    assert_eq!(host.call(Call::Undo), (10, vec![]));
+    assert_eq!(set.call(Call::Set(key(4, 1), 20)), (0, vec![20]));
+    assert_eq!((set.head[9..].to_vec(), set.call(Call::Undo)), (vec![0; 4], (10, vec![])));
+}
+
+/// What the head may remember after P4's union, ring 1, 4, 3, 2: that one under any value, and no other.
+#[test]
+fn memories_that_are_unsound() {
+    let mut host = Host::fresh(4, 3);
+    for call in [new_run(10, 100), Call::Insert(key(1, 1), 11, 0), Call::Insert(key(1, 1), 12, 0), new_run(20, 200)] {
+        assert_eq!(host.call(call).0, 0);
+    }
+    assert_eq!(host.call(Call::Union(key(4, 1), key(1, 1))).0, 0);
+    let numbers = [0, 1, 2, 3, 4, 5, u64::MAX];
+    let mut sound = vec![];
+    for memory in (0..7usize.pow(3)).map(|n| [numbers[n % 7], numbers[n / 7 % 7], numbers[n / 49], 9]) {
+        host.head[9..].copy_from_slice(&memory);
+        let linear = check::sound(&model::Head::of(&host.head), &host.elems, &host.shared);
+        assert_eq!(linear, host.call(Call::Check).0 == 0, "{memory:?}");
+        if linear {
+            sound.push(memory);
+        }
+    }
+    // any frame and the next one, or the next but one: so far the first part is the larger one, or as large
+    sound.sort_unstable();
+    let wanted = [[1, 3, 2, 9], [1, 4, 1, 9], [2, 1, 1, 9], [2, 4, 2, 9]];
+    assert_eq!(sound, [wanted, [[3, 1, 2, 9], [3, 2, 1, 9], [4, 2, 2, 9], [4, 3, 1, 9]]].concat());
+}
+
 /// The linear check and the sentences by sets agree: grown states, with one to three numbers changed.
 #[test]
 fn the_check_is_the_sentences() {
@@ -328,19 +375,21 @@ fn the_check_is_the_sentences() {
         let mut host = Host::fresh(1 + next(5), 1 + next(4));
         for _ in 0..next(12) {
             let (j, k) = (key(1 + next(5), 1 + next(3)), key(1 + next(5), 1 + next(3)));
-            let call = match next(5) {
+            let call = match next(6) {
                 0 => Call::InsertSurject { payload: next(3), value: next(3), size: next(3) as u32 },
                 1 => Call::Insert(k, next(3), next(3) as u32),
                 2 => Call::Union(j, k),
                 3 => Call::Seal(k),
+                4 => Call::Undo,
                 _ => Call::RemoveElement(k),
             };
             host.lent(call, &mut [0; 5 * SEAL_PLACE]);
         }
         for _ in 0..next(4) {
             let value = next(7);
-            match next(3) {
+            match next(4) {
                 0 => host.head[[1, 2, 3, 5, 6, 7, 8][next(7) as usize]] = value,
+                3 => host.head[9 + next(3) as usize] = value,
                 1 => *pick(&mut host.elems, next(1 << 32)) = value,
                 _ => *pick(&mut host.shared, next(1 << 32)) = value,
             }

@@ -17,6 +17,7 @@ extern crate self as recasting;
 
 mod arena;
 mod chain;
+mod copy;
 mod direct;
 mod fundamental;
 mod recast;

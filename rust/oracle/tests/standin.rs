@@ -121,6 +121,25 @@ fn mixed_rings_pass_the_original_check() {
     assert_eq!((a.get_shared(p), a.get_shared(p1)), (Some(&100), Some(&200)));
 }
 
+/// A clone chains free slots anew, lowest first; a copy in every slot gives the next frame the slot that the original gives it.
+#[test]
+fn a_clone_takes_other_slots_and_a_copy_the_same() {
+    let mut a = A::new();
+    let p: Vec<P0> = (1..=4).map(|n| a.insert_surject(n, 100 * n)).collect();
+    for k in [0, 2] {
+        a.remove_element(p[k]).allow();
+    }
+    let (mut clone, mut copy) = (a.clone(), a.exact_copy());
+    assert_eq!(A::_check_invariants(&copy), Ok(()));
+    let next = |a: &mut A| a.insert_surject(9, 900);
+    assert_eq!((next(&mut a), next(&mut a)), (next(&mut copy), next(&mut copy)));
+    assert_eq!(next(&mut clone).inx(), p[0].inx());
+    assert_eq!(
+        a.iter_combined().map(|(p, t, s)| (p, *t, *s)).collect::<Vec<_>>(),
+        copy.iter_combined().map(|(p, t, s)| (p, *t, *s)).collect::<Vec<_>>()
+    );
+}
+
 /// The files that are compiled are the published ones, byte for byte: lengths, and sums by FNV-1a.
 #[test]
 fn the_three_files_are_as_published() {

@@ -1,16 +1,18 @@
 //! The archive's C entries, called as the model's door is, and a host that compares the two.
 
 pub mod chains;
+pub mod memories;
 pub mod random;
 
 use doorsedge::sys::*;
 use model::door::{self, Call};
-use model::{FRAME, HEADER, Key, sets};
+pub use model::layout::head;
+use model::{FRAME, HEAD, HEADER, Key, sets};
 
 /// What a host lends to a call, where it lies.
 #[derive(Clone, Copy)]
 pub struct Lent {
-    pub head: *mut [u64; 9],
+    pub head: *mut [u64; HEAD],
     pub elems: *mut [u64],
     pub shared: *mut [u64],
     pub buffer: *mut [u64],
@@ -19,7 +21,7 @@ pub struct Lent {
 
 /// Makes a call on the archive. The same as [model::door::run], which it is compared with.
 pub fn run(
-    head: &mut [u64; 9],
+    head: &mut [u64; HEAD],
     elems: &mut [u64],
     shared: &mut [u64],
     call: &Call,
@@ -68,6 +70,7 @@ pub unsafe fn run_at(lent: Lent, call: &Call) -> u64 {
                 doorsedge_insert(h, e, en, s, sn, k.slot, k.generation, payload, size, o.cast())
             }
             Call::Union(j, k) => doorsedge_union(h, e, en, s, sn, j.slot, j.generation, k.slot, k.generation, o.cast()),
+            Call::Undo => doorsedge_undo(h, e, en, s, sn),
             Call::RemoveElement(k) => doorsedge_remove_element(h, e, en, s, sn, k.slot, k.generation, o.cast()),
             Call::InsertInPlace(k, payload, size) => {
                 doorsedge_insert_in_place(h.cast(), e, en, s, sn, k.slot, k.generation, payload, size, o.cast())
@@ -91,7 +94,7 @@ pub const UNTOUCHED: u64 = 0xD00_25ED_6E00;
 /// A host's numbers.
 #[derive(Clone, PartialEq, Eq, Debug)]
 pub struct Host {
-    pub head: [u64; 9],
+    pub head: [u64; HEAD],
     pub elems: Vec<u64>,
     pub shared: Vec<u64>,
 }
@@ -122,7 +125,7 @@ impl Host {
     /// Zero tables of these capacities, with generation 1.
     pub fn fresh(elems: u64, shared: u64) -> Host {
         Host {
-            head: [elems, 0, 0, 0, shared, 0, 0, 0, 1],
+            head: head([elems, 0, 0, 0, shared, 0, 0, 0, 1]),
             elems: vec![0; elems as usize * FRAME],
             shared: vec![0; shared as usize * HEADER],
         }
@@ -188,6 +191,7 @@ pub fn every_call(j: Key, k: Key) -> Vec<Call> {
         Call::InsertSurject { payload: 7, value: 8, size: 10 },
         Call::Insert(k, 9, 11),
         Call::Union(j, k),
+        Call::Undo,
         Call::RemoveElement(k),
         Call::InsertInPlace(k, 9, 11),
         Call::RemoveInPlace(k),

@@ -1,10 +1,11 @@
 //! A seeded run of calls: on grown states, on states with some numbers changed, and on random numbers for tables, head and
 //! keys. Every call is compared with the model in every number.
 
+use crate::memories::forged;
 use crate::{Host, key};
 use model::door::{Call, KINDS};
 use model::layout::{CLASS, SIZE, TOTAL};
-use model::{FRAME, HEADER, Key, PAIR, PLACE, RECORD, SEAL_PLACE};
+use model::{FRAME, HEAD, HEADER, Key, PAIR, PLACE, RECORD, SEAL_PLACE};
 use std::collections::BTreeMap;
 use std::fmt;
 
@@ -36,7 +37,7 @@ impl Random {
     }
 
     /// Small, or near an edge, or anything.
-    fn odd(&mut self, small: u64) -> u64 {
+    pub(crate) fn odd(&mut self, small: u64) -> u64 {
         match self.below(8) {
             0 => self.number(),
             1 => self.of(&[65_535, 65_536, 65_537, 4_294_967_294, 4_294_967_295, 4_294_967_296, u64::MAX, 1 << 63]),
@@ -59,7 +60,8 @@ impl Random {
 pub struct Tally(pub BTreeMap<&'static str, BTreeMap<u64, u64>>);
 
 /// What an entry can return but 0, in its columns: number and cause.
-pub const GIVEN: [(u64, u64); 10] = [(1, 0), (2, 0), (3, 1), (3, 2), (3, 3), (4, 0), (12, 0), (6, 0), (5, 0), (7, 0)];
+pub const GIVEN: [(u64, u64); 11] =
+    [(1, 0), (2, 0), (10, 0), (3, 1), (3, 2), (3, 3), (4, 0), (12, 0), (6, 0), (5, 0), (7, 0)];
 
 impl fmt::Display for Tally {
     fn fmt(&self, f: &mut fmt::Formatter<'_>) -> fmt::Result {
@@ -105,7 +107,7 @@ pub fn compare(calls: u64, seed: u64) -> Tally {
 }
 
 /// A new state, sometimes shortly before the generation's last number.
-pub(crate) fn begun(r: &mut Random) -> Host {
+pub fn begun(r: &mut Random) -> Host {
     let most = r.of(&[1, 4, 6, 8, 12, 16, 16, 80]);
     let mut host = Host::fresh(1 + r.below(most), 1 + r.below(most));
     if r.one_in(4) {
@@ -114,7 +116,8 @@ pub(crate) fn begun(r: &mut Random) -> Host {
     host
 }
 
-/// One to three numbers changed, or a size and its total, or a table one number short or long, or a capacity that does not fit it.
+/// One to three numbers changed, or a size and its total, or what the head remembers, or a table one number short or long, or a
+/// capacity that does not fit it.
 fn damaged(grown: &Host, r: &mut Random) -> Host {
     let mut host = grown.clone();
     let small = host.head[0] + 3;
@@ -129,9 +132,16 @@ fn damaged(grown: &Host, r: &mut Random) -> Host {
         }
         return host;
     }
-    if r.one_in(4) {
-        resized(&mut host, r);
-        return host;
+    match r.below(4) {
+        0 => {
+            resized(&mut host, r);
+            return host;
+        }
+        1 => {
+            forged(&mut host, r);
+            return host;
+        }
+        _ => (),
     }
     for _ in 0..=r.below(3) {
         let value = r.odd(small);
@@ -175,12 +185,15 @@ fn pick<'a>(table: &'a mut [u64], r: &mut Random) -> &'a mut u64 {
 fn noise(r: &mut Random) -> Host {
     let (elems, shared) = (r.below(6), r.below(5));
     let small = elems + 2;
-    let mut host = Host { head: [0; 9], elems: vec![], shared: vec![] };
+    let mut host = Host { head: [0; HEAD], elems: vec![], shared: vec![] };
     for number in &mut host.head {
         *number = r.odd(small);
     }
     if r.one_in(2) {
         (host.head[0], host.head[4]) = (elems, shared);
+    }
+    if r.one_in(2) {
+        host.head[HEAD - 4..].fill(0);
     }
     host.elems = (0..elems as usize * FRAME).map(|_| r.odd(small)).collect();
     host.shared = (0..shared as usize * HEADER).map(|_| r.odd(small)).collect();
@@ -198,10 +211,17 @@ fn any_key(keys: &[Key], r: &mut Random) -> Key {
     r.of(keys)
 }
 
-pub(crate) fn any_call(host: &Host, r: &mut Random) -> Call {
+pub fn any_call(host: &Host, r: &mut Random) -> Call {
     let keys = host.keys();
     let (j, k) = (any_key(&keys, r), any_key(&keys, r));
     let (a, b, size, elems, shared) = (r.odd(50), r.odd(50), r.size(), r.below(7), r.below(7));
+    // an undo has something to take back mostly right after a union, where only reads may come between
+    if host.head[9] != 0 && r.one_in(3) {
+        return Call::Undo;
+    }
+    if host.head[7] > 1 && r.one_in(10) {
+        return Call::Union(j, k);
+    }
     // what fills the tables comes more often than what empties them
     match r.below(KINDS as u64 + 14) {
         0 => Call::Fresh { elems: r.of(&[host.head[0], elems]), shared: r.of(&[host.head[4], shared]) },
@@ -228,13 +248,14 @@ pub(crate) fn any_call(host: &Host, r: &mut Random) -> Call {
         23 => Call::Lookup(k),
         24 => Call::GetSize(k),
         25 => Call::GetTotal(k),
-        n if n < 33 => Call::InsertSurject { payload: a, value: b, size },
+        26 => Call::Undo,
+        n if n < 34 => Call::InsertSurject { payload: a, value: b, size },
         _ => Call::Insert(k, a, size),
     }
 }
 
 /// A buffer about as long as needed, with numbers in it.
-pub(crate) fn any_buffer(host: &Host, call: &Call, r: &mut Random) -> Vec<u64> {
+pub fn any_buffer(host: &Host, call: &Call, r: &mut Random) -> Vec<u64> {
     let frames = host.keys().len();
     let most = match call {
         Call::List(_) => frames * PLACE,

@@ -1,13 +1,13 @@
 //! Ticket 4 of document 02: every free slot up to the extent is on its chain. Each call is also compared with the model's
 //! in every number.
 
-use archive::{Host, chains, every_call, key};
+use archive::{Host, chains, every_call, head, key};
 use model::door::Call;
 
 /// A run of one in slot 2, shared slot 2; slot 1 of each table is free, with these roots. Extents have reached capacities.
 fn restored(root: u64, shared_root: u64) -> Host {
     Host {
-        head: [2, 2, root, 1, 2, 2, shared_root, 1, 2],
+        head: head([2, 2, root, 1, 2, 2, shared_root, 1, 2]),
         elems: vec![0, 0, 0, 0, 0, 0, 1, 20, 2, 2, 2, 9],
         shared: vec![0, 0, 0, 0, 0, 1, 200, 0, 0, 9],
     }

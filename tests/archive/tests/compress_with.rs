@@ -2,7 +2,7 @@
 //! same up to the renaming under both compressions. Each call is also compared with the model's in every number.
 
 use archive::random::Random;
-use archive::{Host, UNTOUCHED, key};
+use archive::{Host, UNTOUCHED, head, key};
 use model::door::Call;
 use model::layout::{COUNT, MARK, PAYLOAD, SIZE, TOTAL, VALUE};
 use model::{FRAME, HEADER, Key, PAIR, PLACE, SEAL_PLACE};
@@ -49,7 +49,7 @@ fn what_it_answers_and_leaves() {
         let rows = [[g, 11, 1, 1, 1, 77], [g, 30, 2, 3, 3, 210], [g, 31, 2, 2, 2, 217]].concat();
         assert_eq!(host.elems, [rows, vec![0; 4 * FRAME]].concat());
         assert_eq!(host.shared, [[1, 100, 0, 0, 77], [2, 300, 0, 1, 427], [0; HEADER], [0; HEADER]].concat());
-        assert_eq!(host.head, [7, 3, 0, 3, 4, 2, 0, 2, g]);
+        assert_eq!(host.head, head([7, 3, 0, 3, 4, 2, 0, 2, g]));
     }
 }
 

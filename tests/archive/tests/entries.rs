@@ -1,8 +1,8 @@
 //! Each entry through an accepted and a refused call, with the numbers that document 01 gives.
 
-use archive::{Host, UNTOUCHED, key};
+use archive::{Host, UNTOUCHED, head, key};
 use model::door::Call;
-use model::{FRAME, HEADER, PAIR, SEAL_PLACE};
+use model::{FRAME, HEAD, HEADER, PAIR, SEAL_PLACE};
 
 /// Makes the call (which compares every number with the model's), and answers result and `out`.
 fn said(host: &mut Host, call: Call) -> (u64, Vec<u64>) {
@@ -28,9 +28,9 @@ fn two_runs() -> Host {
 
 #[test]
 fn fresh() {
-    let mut host = Host { head: [99; 9], elems: vec![98; 4 * FRAME], shared: vec![97; 3 * HEADER] };
+    let mut host = Host { head: [99; HEAD], elems: vec![98; 4 * FRAME], shared: vec![97; 3 * HEADER] };
     assert_eq!(said(&mut host, Call::Fresh { elems: 4, shared: 4 }), (1, vec![]));
-    assert_eq!(host.head, [99; 9]);
+    assert_eq!(host.head, [99; HEAD]);
     assert_eq!(said(&mut host, Call::Fresh { elems: 4, shared: 3 }), (0, vec![]));
     assert_eq!(host, Host::fresh(4, 3));
 }
@@ -181,7 +181,7 @@ fn drain_all() {
     let drain = host.call(Call::DrainAll, &[77; 24]);
     assert_eq!((drain.number, drain.out[0]), (0, 4));
     assert_eq!(drain.lent, [1, 1, 10, 0, 0, 0, 3, 1, 12, 0, 0, 0, 2, 1, 11, 1, 100, 0, 4, 1, 20, 1, 200, 0]);
-    assert_eq!(host.head, [4, 0, 0, 0, 3, 0, 0, 0, 6]);
+    assert_eq!(host.head, head([4, 0, 0, 0, 3, 0, 0, 0, 6]));
 }
 
 #[test]
@@ -215,7 +215,7 @@ fn compress_canonical() {
     assert_eq!(compress.lent, [vec![0; 4 * FRAME], vec![8]].concat());
     assert_eq!(host.elems[..2 * FRAME], [3, 21, 1, 2, 2, 0, 3, 20, 1, 1, 1, 0]);
     assert_eq!(host.shared, [[2, 200, 0, 0, 0], [0; HEADER], [0; HEADER]].concat());
-    assert_eq!(host.head, [4, 2, 0, 2, 3, 1, 0, 1, 3]);
+    assert_eq!(host.head, head([4, 2, 0, 2, 3, 1, 0, 1, 3]));
     host.head[8] = 4_294_967_295;
     // any number but 0 asks for a reset
     assert_eq!(host.call(Call::CompressCanonical { reset: 1 << 40 }, &[8; 4 * FRAME]).out[0], 0);

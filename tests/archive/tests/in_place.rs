@@ -1,13 +1,14 @@
 //! The writer's two calls with the head lent in place: every refusal that they can give, and overflow.
 
-use archive::{Host, key};
+use archive::{Host, head, key};
+use doorsedge::sys::LentHead;
 use model::door::Call;
-use model::layout::{FRAME, HEADER, MARK, TOTAL};
+use model::layout::{FRAME, HEAD, HEADER, MARK, TOTAL};
 
 /// Slots 1 and 2 in a ring under 100, of three; one run more could begin.
 fn ring() -> Host {
     let elems = [[1, 10, 1, 2, 2, 7], [1, 11, 1, 1, 1, 8], [0; FRAME]].concat();
-    Host { head: [3, 2, 0, 2, 2, 1, 0, 1, 1], elems, shared: [[2, 100, 0, 0, 15], [0; HEADER]].concat() }
+    Host { head: head([3, 2, 0, 2, 2, 1, 0, 1, 1]), elems, shared: [[2, 100, 0, 0, 15], [0; HEADER]].concat() }
 }
 
 /// Makes the call (which compares every number with the model's), and answers the result.
@@ -32,6 +33,18 @@ fn insert() {
     assert_eq!(number(&mut host, Call::InsertInPlace(key(1, 1), 13, 0)), 2);
     host.head[0] = 0;
     assert_eq!(number(&mut host, Call::InsertInPlace(key(1, 1), 13, 0)), 1);
+}
+
+/// The struct has the head's numbers in their order.
+#[test]
+fn the_head_as_a_struct() {
+    let numbers: [u64; HEAD] = std::array::from_fn(|i| 7 * i as u64);
+    let lent = LentHead::from(numbers);
+    assert_eq!([lent.elems.root, lent.shared.root, lent.generation], [numbers[2], numbers[6], numbers[8]]);
+    assert_eq!([lent.undo.kept, lent.undo.gone, lent.undo.moved, lent.undo.value], numbers[9..]);
+    assert_eq!(<[u64; HEAD]>::from(lent), numbers);
+    // Safety: the struct is as long, and any bytes are numbers
+    assert_eq!(unsafe { std::mem::transmute::<LentHead, [u64; HEAD]>(lent) }, numbers);
 }
 
 #[test]

@@ -2,7 +2,7 @@
 //! seeded run.
 
 use archive::random::compare;
-use archive::{Host, every_call, key};
+use archive::{Host, every_call, head, key};
 use model::door::Call;
 use model::layout::{CLASS, COUNT, MARK, MOST_BYTES, NEXT, NEXT_FREE, PAYLOAD, PREVIOUS, SIZE, TOTAL, VALUE};
 use model::{FRAME, HEADER, PAIR, PLACE, RECORD, SEAL_PLACE, check};
@@ -27,8 +27,8 @@ fn two_runs() -> Host {
 #[test]
 fn tables_one_number_short_or_long() {
     let host = two_runs();
-    // of the calls, only the four-key one with keys twice is not accepted
-    assert_eq!(numbers(&host).iter().filter(|&&n| n != 0).collect::<Vec<_>>(), [&4]);
+    // of the calls, only the four-key one with keys twice and the undo of nothing are not accepted
+    assert_eq!(numbers(&host).iter().filter(|&&n| n != 0).collect::<Vec<_>>(), [&4, &10]);
     let mut damaged = vec![host.clone(), host.clone(), host.clone(), host.clone(), host.clone(), host.clone()];
     damaged[0].elems.pop();
     damaged[1].elems.push(0);
@@ -117,6 +117,7 @@ fn full_tables() {
             let number = host.clone().call_with(check::sound, call, &vec![3; needed]).number;
             match call {
                 Call::ExchangeShared4(..) => assert_eq!(number, 4),
+                Call::Undo => assert_eq!(number, 10),
                 Call::InsertSurject { .. } => assert_eq!(number, if size == 1 { 6 } else { 5 }),
                 Call::Insert(..) | Call::InsertInPlace(..) => assert_eq!(number, 5),
                 Call::Union(..) => assert_eq!(number, if size == most { 4 } else { 0 }),
@@ -130,7 +131,7 @@ fn full_tables() {
 fn full(most: u64, size: u64) -> Host {
     let runs = most / size;
     let mut host = Host::fresh(most, most);
-    host.head = [most, most, 0, most, most, runs, 0, runs, 1];
+    host.head = head([most, most, 0, most, most, runs, 0, runs, 1]);
     for run in 0..runs {
         let slot = |i: u64| (i % size) * runs + run + 1;
         for i in 0..size {
@@ -146,7 +147,7 @@ fn full(most: u64, size: u64) -> Host {
 #[test]
 fn mixed_rings_are_refused_2() {
     let host = Host {
-        head: [4, 4, 0, 4, 3, 2, 0, 2, 1],
+        head: head([4, 4, 0, 4, 3, 2, 0, 2, 1]),
         elems: [[1, 0, 1, 2, 2, 0], [1, 0, 2, 1, 1, 0], [1, 0, 1, 4, 4, 0], [1, 0, 2, 3, 3, 0]].concat(),
         shared: [[2, 0, 0, 0, 0], [2, 0, 0, 0, 0], [0; HEADER]].concat(),
     };
@@ -225,8 +226,10 @@ fn random_numbers() {
         assert!(had(0) && counts.len() > 1, "{name}: {counts:?}");
         let sealed = ["insert", "insert_in_place", "union", "seal"].contains(&name);
         assert_eq!(had(12), sealed, "{name}: {counts:?}");
+        assert_eq!(had(10), name == "undo", "{name}: {counts:?}");
         // each entry with a key tells each cause, and no entry tells 3 without one
-        let keyless = ["check", "clear", "compress_canonical", "compress_with", "drain_all", "fresh", "insert_surject"];
+        let keyless =
+            ["check", "clear", "compress_canonical", "compress_with", "drain_all", "fresh", "insert_surject", "undo"];
         let causes = [0, 1, 2, 3, 4].map(|cause| had(3 + 256 * cause));
         assert_eq!(
             causes,

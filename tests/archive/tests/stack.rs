@@ -1,7 +1,8 @@
 //! Canonical compression's follow of class entries is a recursion in the source. It must be a loop in the archive: its
-//! longest way, 65,535 steps, has to run in a small stack. So has the compression in slot order, where every row moves.
+//! longest way, 65,535 steps, has to run in a small stack. So has the compression in slot order, where every row moves, and the
+//! largest union with its undo.
 
-use archive::run;
+use archive::{head, run};
 use model::door::Call;
 use model::{FRAME, HEADER, PAIR};
 
@@ -10,13 +11,13 @@ const SMALL_STACK: usize = 256 * 1024;
 
 /// Rings of one, every other one sealed, where run k has its header in the shared slot that `header_of` gives, and as many bytes.
 fn compressed(header_of: fn(u64) -> u64) {
-    let mut head = [FRAMES, FRAMES, 0, FRAMES, FRAMES, FRAMES, 0, FRAMES, 1];
+    let mut numbers = head([FRAMES, FRAMES, 0, FRAMES, FRAMES, FRAMES, 0, FRAMES, 1]);
     let mut elems: Vec<u64> = (1..=FRAMES).flat_map(|k| [1, 10 * k, header_of(k), k, k, header_of(k)]).collect();
     let header = |c: u64| -> [u64; HEADER] { [1, 1_000_000 + c, 0, c % 2, c] };
     let mut shared: Vec<u64> = (1..=FRAMES).flat_map(header).collect();
     let mut scratch = vec![9; elems.len()];
     let said =
-        run(&mut head, &mut elems, &mut shared, &Call::CompressCanonical { reset: 0 }, &mut scratch, &mut [0; 4]);
+        run(&mut numbers, &mut elems, &mut shared, &Call::CompressCanonical { reset: 0 }, &mut scratch, &mut [0; 4]);
     assert_eq!(said, 0);
     assert!((1..=FRAMES).flat_map(|k| [2, 10 * k, k, k, k, header_of(k)]).eq(elems));
     assert!((1..=FRAMES).map(header_of).flat_map(header).eq(shared));
@@ -27,7 +28,7 @@ fn compressed(header_of: fn(u64) -> u64) {
 /// `header_of(k)`: every frame and every header moves down by one.
 fn moved_down(header_of: fn(u64) -> u64) {
     let live = FRAMES - 1;
-    let mut head = [FRAMES, FRAMES, 1, live, FRAMES, FRAMES, 1, live, 1];
+    let mut numbers = head([FRAMES, FRAMES, 1, live, FRAMES, FRAMES, 1, live, 1]);
     let mut elems = vec![0; FRAME];
     elems.extend((2..=FRAMES).flat_map(|k| [1, 10 * k, header_of(k), k, k, header_of(k)]));
     let header = |c: u64| -> [u64; HEADER] { [1, 1_000_000 + c, 0, c % 2, c] };
@@ -35,15 +36,39 @@ fn moved_down(header_of: fn(u64) -> u64) {
     shared.extend((2..=FRAMES).flat_map(header));
     let mut pairs = vec![9; live as usize * PAIR];
     let mut out = [0; 4];
-    let said = run(&mut head, &mut elems, &mut shared, &Call::CompressWith { reset: 0 }, &mut pairs, &mut out);
+    let said = run(&mut numbers, &mut elems, &mut shared, &Call::CompressWith { reset: 0 }, &mut pairs, &mut out);
     assert_eq!((said, out), (0, [live, 0, 0, 0]));
-    assert_eq!(head, [FRAMES, live, 0, live, FRAMES, live, 0, live, 2]);
+    assert_eq!(numbers, head([FRAMES, live, 0, live, FRAMES, live, 0, live, 2]));
     let (last_row, last_header) = ([0; FRAME], [0; HEADER]);
     assert!(
         (2..=FRAMES).flat_map(|k| [2, 10 * k, header_of(k) - 1, k - 1, k - 1, header_of(k)]).chain(last_row).eq(elems)
     );
     assert!((2..=FRAMES).flat_map(header).chain(last_header).eq(shared));
     assert!((2..=FRAMES).flat_map(|k| [k, 1, k - 1, 2]).eq(pairs));
+}
+
+/// Two rings of half of the frames each, joined and taken back.
+fn joined_and_taken_back() {
+    let half = FRAMES / 2;
+    let before = head([FRAMES, FRAMES, 0, FRAMES, 2, 2, 0, 2, 1]);
+    let ring = |first: u64, class: u64| {
+        let slot = move |i: u64| first + i % half;
+        (0..half).flat_map(move |i| [1, i, class, slot(i + half - 1), slot(i + 1), 3])
+    };
+    let elems: Vec<u64> = ring(1, 1).chain(ring(half + 1, 2)).collect();
+    let shared = [half, 10, 0, 0, 3 * half, half, 20, 0, 0, 3 * half];
+    let (mut numbers, mut e, mut s, mut out) = (before, elems.clone(), shared, [0; 4]);
+    let [j, k] = [1, FRAMES].map(|slot| model::Key { slot, generation: 1 });
+    assert_eq!(run(&mut numbers, &mut e, &mut s, &Call::Union(j, k), &mut [], &mut out), 0);
+    assert_eq!((out, &numbers[9..]), ([20, 1, 1, half], &[1, FRAMES, half, 20][..]));
+    assert!(e.chunks(FRAME).all(|row| row[2] == 1));
+    assert_eq!(run(&mut numbers, &mut e, &mut s, &Call::Undo, &mut [], &mut out), 0);
+    assert!(numbers == before && e == elems && s == shared);
+}
+
+#[test]
+fn the_largest_union_and_its_undo_in_a_small_stack() {
+    in_a_small_stack(joined_and_taken_back);
 }
 
 fn in_a_small_stack(test: impl FnOnce() + Send + 'static) {

@@ -3,7 +3,7 @@
 //! number.
 
 use archive::random::Random;
-use archive::{Host, UNTOUCHED, key};
+use archive::{Host, UNTOUCHED, head, key};
 use model::door::Call;
 use model::layout::{COUNT, MOST_BYTES, NEXT, SIZE, TOTAL};
 use model::{FRAME, HEADER, Key, PAIR, RECORD, SEAL_PLACE, check};
@@ -223,7 +223,7 @@ fn the_most_bytes_that_there_can_be() {
     let (most, all) = (65_536u64, 281_474_976_645_120);
     assert!(all == most * MOST_BYTES && all < 281_474_976_710_656);
     let mut host = Host::fresh(most, 2);
-    host.head = [most, most - 1, 0, most - 1, 2, 1, 0, 1, 1];
+    host.head = head([most, most - 1, 0, most - 1, 2, 1, 0, 1, 1]);
     for (row, slot) in host.elems.chunks_mut(FRAME).zip(1..most) {
         let (previous, next) = (if slot == 1 { most - 1 } else { slot - 1 }, slot % (most - 1) + 1);
         row.copy_from_slice(&[1, slot, 1, previous, next, MOST_BYTES]);
@@ -260,10 +260,12 @@ fn the_most_bytes_that_there_can_be() {
     assert_eq!((inserted.shared[..2 * HEADER].to_vec(), inserted.head[3]), (vec![0; 2 * HEADER], 0));
 }
 
-/// What the accepted calls say of each frame: its payload, which no other has, with its size and its run.
+/// What the accepted calls say of each frame: its payload, which no other has, with its size and its run; and the same before the last
+/// union, for an undo.
 #[derive(Default)]
 struct History {
     frames: BTreeMap<u64, (u64, u64)>,
+    before: BTreeMap<u64, (u64, u64)>,
 }
 
 impl History {
@@ -290,6 +292,7 @@ impl History {
             }
             Call::Union(j, k) => {
                 let (kept, gone) = (self.run(before, j), self.run(before, k));
+                self.before = self.frames.clone();
                 self.frames.values_mut().filter(|frame| frame.1 == gone).for_each(|frame| frame.1 = kept);
             }
             Call::RemoveElement(k) | Call::RemoveInPlace(k) => drop(self.frames.remove(&self.payload(before, k))),
@@ -297,6 +300,7 @@ impl History {
                 let run = self.run(before, k);
                 self.frames.retain(|_, frame| frame.1 != run);
             }
+            Call::Undo => self.frames = self.before.clone(),
             Call::DrainAll | Call::Clear => self.frames.clear(),
             _ => (),
         }
@@ -308,6 +312,9 @@ fn any(host: &Host, payload: u64, r: &mut Random) -> Call {
     let keys = host.keys();
     let (j, k) = if keys.is_empty() { (key(0, 0), key(0, 0)) } else { (r.of(&keys), r.of(&keys)) };
     let size = r.size();
+    if host.head[9] != 0 && r.one_in(3) {
+        return Call::Undo;
+    }
     match r.below(24) {
         0..=4 => new_run(payload, r.below(9), size),
         5..=9 => Call::Insert(k, payload, size),
@@ -329,7 +336,7 @@ fn any(host: &Host, payload: u64, r: &mut Random) -> Call {
 #[test]
 fn totals_are_those_of_the_history() {
     let mut r = Random::new(6);
-    let (mut largest, mut accepted) = (0, 0);
+    let (mut largest, mut accepted, mut undone) = (0, 0, 0);
     for _ in 0..400 {
         let most = 1 + r.below(14);
         let mut host = Host::fresh(most, 1 + r.below(most));
@@ -339,6 +346,7 @@ fn totals_are_those_of_the_history() {
             if host.call(call, &vec![0; host.elems.len().max(14 * RECORD)]).number == 0 {
                 history.note(&before, call);
                 accepted += 1;
+                undone += u32::from(call == Call::Undo);
             }
             assert_eq!(host.keys().len(), history.frames.len());
             for k in host.keys() {
@@ -349,7 +357,7 @@ fn totals_are_those_of_the_history() {
             }
         }
     }
-    assert!(largest > 2 * MOST_BYTES && accepted > 10_000, "{largest} {accepted}");
+    assert!(largest > 2 * MOST_BYTES && accepted > 10_000 && undone > 100, "{largest} {accepted} {undone}");
 }
 
 /// The total is the sum along next from every frame, read from the tables.
@@ -380,11 +388,13 @@ fn totals_are_the_sums_around_rings() {
 /// place on the stack, is handed over with it.
 #[cfg(target_arch = "x86_64")]
 mod wide {
+    use model::HEAD;
+
     #[allow(clashing_extern_declarations)]
     unsafe extern "C" {
         #[link_name = "doorsedge_insert_surject"]
         pub fn insert_surject(
-            head: *mut [u64; 9],
+            head: *mut [u64; HEAD],
             elems: *mut u64,
             elems_len: usize,
             shared: *mut u64,
@@ -397,7 +407,7 @@ mod wide {
 
         #[link_name = "doorsedge_insert"]
         pub fn insert(
-            head: *mut [u64; 9],
+            head: *mut [u64; HEAD],
             elems: *mut u64,
             elems_len: usize,
             shared: *mut u64,
@@ -411,7 +421,7 @@ mod wide {
 
         #[link_name = "doorsedge_insert_in_place"]
         pub fn insert_in_place(
-            head: *mut [u64; 9],
+            head: *mut [u64; HEAD],
             elems: *mut u64,
             elems_len: usize,
             shared: *mut u64,

@@ -137,8 +137,18 @@ fn two_runs(elems: u64, shared: u64) -> Host {
     host
 }
 
+/// A run of slots 1 and 2 after their union, which can be undone, and runs of slots 3, 4 and 5.
+fn joined() -> Host {
+    let mut host = Host::fresh(6, 6);
+    for n in 1..=5 {
+        assert_eq!(host.call(Call::InsertSurject { payload: n, value: n, size: 9 }, &[]).number, 0);
+    }
+    assert_eq!(host.call(Call::Union(key(1, 1), key(2, 1)), &[]).number, 0);
+    host
+}
+
 /// Sound ones with room, without an element slot, without a shared slot and without either, empty ones, ones with a free
-/// slot, and ones with a sealed run; then unsound ones, and ones that do not fit.
+/// slot, ones with a sealed run, and ones after a union; then unsound ones, and ones that do not fit.
 fn hosts() -> Vec<Host> {
     let changed = |change: fn(&mut Host)| {
         let mut host = two_runs(4, 3);
@@ -153,6 +163,9 @@ fn hosts() -> Vec<Host> {
         Host::fresh(4, 3),
         changed(|host| drop(host.call(Call::RemoveElement(key(3, 1)), &[]))),
         changed(|host| host.shared[MARK] = 1),
+        joined(),
+        changed(|host| host.head[9..].copy_from_slice(&[1, 3, 1, 7])),
+        changed(|host| host.head[12] = 1),
         changed(|host| host.head[3] += 1),
         changed(|host| host.head[8] = 0),
         changed(|host| host.elems[2] = 2),
@@ -230,9 +243,12 @@ fn refusals_write_nothing() {
 /// with none locked it goes through.
 #[test]
 fn accepted_calls_write() {
-    let (host, buffer) = (two_runs(4, 3), [77; 40]);
-    let mut stores = 0;
-    for call in calls(key(1, 1), key(2, 1)) {
+    let buffer = [77; 40];
+    let mut stores = BTreeSet::new();
+    let exchange = Call::ExchangeShared4([1, 3, 4, 5].map(|slot| key(slot, 1)), [1, 3, 4, 5]);
+    let with =
+        |host: Host| calls(key(1, 1), key(2, 1)).into_iter().chain([exchange]).map(move |call| (host.clone(), call));
+    for (host, call) in with(two_runs(4, 3)).chain(with(joined())) {
         let (number, after) = model(&host, &call, &buffer);
         if number != 0 {
             continue;
@@ -243,9 +259,11 @@ fn accepted_calls_write() {
             parts.0[part].lock();
             if parts.0[part].numbers() != after {
                 assert!(is_fault(&end(&parts, &call)), "{call:?} does not write part {part}");
-                stores += part.eq(&0) as usize;
+                if part == 0 {
+                    stores.insert(call.name().0);
+                }
             }
         }
     }
-    assert_eq!(stores, 13, "thirteen entries store the head");
+    assert_eq!(stores.len(), 18, "eighteen entries store the head: {stores:?}");
 }
