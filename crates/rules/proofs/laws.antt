@@ -30,6 +30,9 @@ pub mod Follows
 pub mod Histories
 pub mod EveryCall
 pub mod DemandThree
+pub mod Marks
+pub mod Moves
+pub mod Stale
 pub mod Closed
 pub mod Sealing
 pub mod UnionFrame

@@ -1,0 +1,76 @@
+-- Ticket 8: a removed frame's key stays dead, over any sequence of calls from fresh tables.
+use Prim.Native.Nat.{ℕ, _≤_}
+use mathlib.Core.Path.{_≡_}
+use mathlib.Core.Bool.{true}
+use mathlib.Core.List.{List}
+use lib.ListN.{getD}
+use Rattle.rules.specs.declared.Key.{Key}
+use Rattle.rules.specs.Tables.{cell, State, LiveKey}
+use Rattle.rules.specs.Refusals.{Outcome}
+use Rattle.rules.specs.Slots.{overflows}
+use Rattle.rules.specs.Runs.{keyValues}
+use Rattle.rules.specs.Drains.{recordWidth, allDrained}
+use Rattle.rules.specs.Calls.{Call, newRun, insert, remove, removeShared, drain, drainAll, clear, compress, compressWith, lookup, AtDoor}
+use Rattle.rules.specs.Renaming.{Compresses}
+use Rattle.rules.specs.Demand.{Sequence, andThen, headerOf}
+
+-- Rules 10 and 11: the overflow mark of the `i`th record that a drain wrote (docs/LAYOUT.md); it wrote as many as it answered
+abbrev pub overMark : Outcome → (i : ℕ) → ℕ
+overMark o i = cell recordWidth (o .lent) 5 i
+
+abbrev pub Written : Outcome → (i : ℕ) → Type 0
+Written o i = (1 ≤ i) × (i ≤ getD (o .said .values) 0 0)
+
+-- what ends the premise, in a call from the state `st` with the outcome `o`; and so does any fresh call
+pub data Ends (st : State) (o : Outcome) : Call → Type 0 where
+  -- an answer said overflow; a drain says it on the record concerned
+  answer : {c : Call} → o .said .over ≡ true → Ends st o c
+  onRecord : (k : Key) (i : ℕ) → Written o i → overMark o i ≡ 1 → Ends st o (drain k)
+  onRecordOfAll : (i : ℕ) → Written o i → overMark o i ≡ 1 → Ends st o drainAll
+  -- a compression was asked to reset
+  reset : Ends st o (compress true)
+  resetWith : Ends st o (compressWith true)
+  -- drain-all passed the last generation in its closing clear
+  closing : o .said .number ≡ 0 → overflows (allDrained (st .head .shared .live) st) ≡ true → Ends st o drainAll
+
+-- a call more, refused or not, that does not end the premise
+pub data Quietly (s : Sequence) : Sequence → Type 0 where
+  call : (lent : List ℕ) (c : Call) (o : Outcome) (d : AtDoor (s .state) lent c o) → (Ends (s .state) o c → ⊥) → Quietly s (andThen s lent c o d)
+
+-- the accepted call in which a frame got the key `k`: it answered it; a compression gives every frame a new one, answered or not
+pub data Gives (o : Outcome) (k : Key) : Call → Type 0 where
+  begun : (payload value size : ℕ) → o .said .values ≡ keyValues k → Gives o k (newRun payload value size)
+  put : (j : Key) (payload size : ℕ) → o .said .values ≡ keyValues k → Gives o k (insert j payload size)
+  renewed : {c : Call} → Compresses c → LiveKey (o .state) k → Gives o k c
+
+-- a sequence in which a frame got the key `k`, and since then the premise held
+pub data Since (k : Key) : Sequence → Type 0 where
+  given : (s : Sequence) (lent : List ℕ) (c : Call) (o : Outcome) (d : AtDoor (s .state) lent c o) → o .said .number ≡ 0 → Gives o k c → Since k (andThen s lent c o d)
+  since : {s s′ : Sequence} → Since k s → Quietly s s′ → Since k s′
+
+-- the same sequence, or with more calls, the premise holding
+pub data Later (s : Sequence) : Sequence → Type 0 where
+  now : Later s s
+  later : {s′ s″ : Sequence} → Later s s′ → Quietly s′ s″ → Later s s″
+
+-- a call by which the frame of the live key `k` is removed, drained, cleared or compressed away
+pub data Takes (st : State) (k : Key) : Call → Type 0 where
+  removed : Takes st k (remove k)
+  removedShared : (j : Key) → headerOf st j ≡ headerOf st k → Takes st k (removeShared j)
+  drained : (j : Key) → headerOf st j ≡ headerOf st k → Takes st k (drain j)
+  drainedAll : Takes st k drainAll
+  cleared : Takes st k clear
+  compressed : {c : Call} → Compresses c → Takes st k c
+
+-- with this call more, which is accepted, the premise holding
+pub data TakenOut (k : Key) (s : Sequence) : Sequence → Type 0 where
+  taken : LiveKey (s .state) k → (lent : List ℕ) (c : Call) (o : Outcome) (d : AtDoor (s .state) lent c o) → o .said .number ≡ 0 → (Ends (s .state) o c → ⊥) → Takes (s .state) k c → TakenOut k s (andThen s lent c o d)
+
+-- THE CLAIM
+pub record StaysDead : Type 0 where
+  -- once the key has been removed, drained, cleared or compressed away, no later lookup calls it live
+  pub gone : (k : Key) (s s′ s″ : Sequence) → Since k s → TakenOut k s s′ → Later s′ s″ → LiveKey (s″ .state) k → ⊥
+  -- nor does the call that looks it up: it refuses 3
+  pub told : (k : Key) (s s′ s″ : Sequence) → Since k s → TakenOut k s s′ → Later s′ s″ → (lent : List ℕ) (o : Outcome) → AtDoor (s″ .state) lent (lookup k) o → o .said .number ≡ 3
+  -- and however it came that one lookup does not call it live, no later one does
+  pub dead : (k : Key) (s s′ : Sequence) → Since k s → (LiveKey (s .state) k → ⊥) → Later s s′ → LiveKey (s′ .state) k → ⊥
