@@ -40,7 +40,7 @@
 
    Refusals. Each entry returns 0 when it accepted, else the number of the refusal. A refused call changes nothing:
    head, tables, buffers and `out` stay as they were. The tests come in the order 1, 2, 10, 3, 4, 12, 6, 5, 7, and each
-   entry below lists those that it can give. Every entry but `fresh` can give 1 and 2. Refusal 3 says why the key is dead:
+   entry below lists those that it can give. Every entry that takes tables, but `fresh`, can give 1 and 2. Refusal 3 says why the key is dead:
    the entry returns 3 + 256 * cause, so compare DOORSEDGE_NUMBER(result) with DOORSEDGE_DEAD, never the result itself. Every
    other result is the number alone.
 
@@ -72,6 +72,13 @@
    the head keeps a union, the smaller of its two runs is walked once more. A call takes at most DOORSEDGE_STACK bytes of
    stack (tests/stack-use.sh adds them up), uses no other memory than what is lent, and asks for one symbol from outside,
    memset.
+
+   Planning unions. Each `union` answers how many frames changed their run: that many class entries it rewrote. From `fresh`
+   on, as long as frames are only put in and runs joined (reads, sets, seals and refused calls may come between), these
+   counts together are at most what `union_ceiling` answers for the number of frames put in, however the runs are joined:
+   1,000 frames cost at most 9,000 rewrites, 65,536 at most 1,048,576. Half of the ceiling can come about: at a power of two,
+   where runs are always joined with runs as large as they are. Any other accepted call ends this: then count from the
+   next `fresh`.
 
    Sound. Up to the extent an element slot is free if its generation is 0, a shared slot if its count is 0; else it is
    live. Refusal 2 is given exactly if one of these does not hold:
@@ -117,7 +124,8 @@ enum doorsedge_refusal {
     DOORSEDGE_NO_SHARED = 6,  /* no shared slot up to the capacity is free */
     DOORSEDGE_SHORT = 7,      /* a buffer has fewer places than needed */
     DOORSEDGE_NOTHING = 10,   /* there is no union to take back */
-    DOORSEDGE_SEALED = 12     /* the run is sealed: no frame may come into it, nor may it be sealed again */
+    DOORSEDGE_SEALED = 12,    /* the run is sealed: no frame may come into it, nor may it be sealed again */
+    DOORSEDGE_OUT_OF_RANGE = 13 /* a number handed in is not in its range */
 };
 
 /* Why a key is dead: of the first dead key, in the order of the arguments. */
@@ -402,6 +410,14 @@ uint64_t doorsedge_compress_canonical(uint64_t head[DOORSEDGE_HEAD], uint64_t *e
 uint64_t doorsedge_compress_with(uint64_t head[DOORSEDGE_HEAD], uint64_t *elems, size_t elems_len, uint64_t *shared,
                                  size_t shared_len, uint64_t reset, uint64_t *pairs, size_t pairs_len,
                                  uint64_t out[2]);
+
+/* ---- Planning: it takes no tables. */
+
+/* The ceiling on union work: from `fresh` on, with `n` frames put in and nothing but frames put in and runs joined, all
+   unions together change the run of at most this many frames; see Planning unions, above.
+   out: n times the place of its highest one bit, places counted from 0.
+   Refusals: 13 (n is zero, or above DOORSEDGE_MOST_SLOTS). */
+uint64_t doorsedge_union_ceiling(uint64_t n, uint64_t out[1]);
 
 /* ---- The head lent in place: a writer lends its own struct, which lies as the DOORSEDGE_HEAD numbers do, and calls
    these two as `insert` and `remove_element` are called. The same struct may be handed to the other entries, as its

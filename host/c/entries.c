@@ -431,6 +431,30 @@ static void key_over_overflow(void) {
     HOLDS(out, 20);
 }
 
+/* The ceiling takes no tables: its edges, and a study in pairs, which rewrites half of it. */
+static void ceiling(void) {
+    const uint64_t figures[][2] = {{1, 0}, {2, 2}, {3, 3}, {4, 8}, {5, 10}, {7, 14}, {8, 24}, {65535, 983025}, {65536, 1048576}};
+    for (size_t i = 0; i < sizeof figures / sizeof *figures; i++) {
+        fill(out, 4);
+        IS(doorsedge_union_ceiling(figures[i][0], out), DOORSEDGE_OK);
+        HOLDS(out, figures[i][1], UNTOUCHED, UNTOUCHED, UNTOUCHED);
+    }
+    REFUSED(doorsedge_union_ceiling(0, out), DOORSEDGE_OUT_OF_RANGE);
+    REFUSED(doorsedge_union_ceiling(DOORSEDGE_MOST_SLOTS + 1, out), DOORSEDGE_OUT_OF_RANGE);
+    REFUSED(doorsedge_union_ceiling(UINT64_MAX, out), DOORSEDGE_OUT_OF_RANGE);
+    uint64_t rewritten = 0;
+    IS(doorsedge_fresh(head, FRAMES, RUNS, elems, ELEMS, shared, SHARED), DOORSEDGE_OK);
+    for (uint64_t i = 1; i <= 4; i++)
+        IS(doorsedge_insert_surject(STATE, 10 * i, 100 * i, 0, out), DOORSEDGE_OK);
+    const uint64_t pairs_of[][2] = {{1, 2}, {3, 4}, {1, 3}};
+    for (size_t i = 0; i < 3; i++) {
+        IS(doorsedge_union(STATE, pairs_of[i][0], 1, pairs_of[i][1], 1, out), DOORSEDGE_OK);
+        rewritten += out[3];
+    }
+    IS(doorsedge_union_ceiling(4, out), DOORSEDGE_OK);
+    IS(2 * rewritten, out[0]);
+}
+
 int main(void) {
     fresh_and_check();
     reads();
@@ -452,6 +476,7 @@ int main(void) {
     null_with_none();
     old_keys();
     key_over_overflow();
+    ceiling();
     printf("host/c/entries: %d of %d as expected\n", tried - failed, tried);
     return failed != 0;
 }

@@ -10,7 +10,7 @@ use lib.ListN.{getD}
 use Rattle.rules.specs.Notation.{if_then_else_, _==_}
 use Rattle.rules.specs.declared.Cause.the-variants.{NoSlot, FreeSlot, OtherGeneration}
 use Rattle.rules.specs.declared.Refusal.{Refusal}
-use Rattle.rules.specs.declared.Refusal.the-variants.{Shape, Unsound, Dead, SameClass, NoElement, NoShared, Short, Malformed, Nothing, Sealed}
+use Rattle.rules.specs.declared.Refusal.the-variants.{Shape, Unsound, Dead, SameClass, NoElement, NoShared, Short, Malformed, Nothing, Sealed, OutOfRange}
 use Rattle.rules.specs.Refusals.{numberOf, valuesOf, Said, saidRefused, saidAccepted}
 use Rattle.rules.specs.Calls.{Is}
 use Rattle.rules.specs.Answers.{saidBeside}
@@ -29,6 +29,7 @@ kept Short a b = refl
 kept Malformed a b = refl
 kept Nothing a b = refl
 kept Sealed a b = refl
+kept OutOfRange a b = refl
 
 -- its result is what it is with nothing beside
 alike : (r : Refusal) (values : List ℕ) (over : Bool) → resultOf (saidRefused r) ≡ resultOf (saidBeside r values over)
@@ -42,6 +43,7 @@ alike Short values over = refl
 alike Malformed values over = refl
 alike Nothing values over = refl
 alike Sealed values over = refl
+alike OutOfRange values over = refl
 
 pub refused : (numbers : Said → List ℕ) (said : Said) (r : Refusal) (values : List ℕ) (over : Bool) (out : List ℕ) (n : ℕ) → said ≡ saidBeside r values over → n ≡ resultOf (saidRefused r) → Answered numbers said out n out
 refused numbers said r values over out n p q = record { number = rw p (q ∙ alike r values over); out = rw p (kept r (numbers (saidBeside r values over)) out) }
@@ -58,8 +60,9 @@ composed Short = refl
 composed Malformed = refl
 composed Nothing = refl
 composed Sealed = refl
+composed OutOfRange = refl
 
-pub few : (r : Refusal) → (numberOf r ≤ 12) × (getD (valuesOf r []) 0 0 ≤ 3)
+pub few : (r : Refusal) → (numberOf r ≤ 13) × (getD (valuesOf r []) 0 0 ≤ 3)
 few Shape = (lit≤ tt, lit≤ tt)
 few Unsound = (lit≤ tt, lit≤ tt)
 few (Dead NoSlot) = (lit≤ tt, lit≤ tt)
@@ -72,6 +75,7 @@ few Short = (lit≤ tt, lit≤ tt)
 few Malformed = (lit≤ tt, lit≤ tt)
 few Nothing = (lit≤ tt, lit≤ tt)
 few Sealed = (lit≤ tt, lit≤ tt)
+few OutOfRange = (lit≤ tt, lit≤ tt)
 
 -- from which both are read back: the low eight bits, and what stands above
 pub number-back : (r : Refusal) → resultOf (saidRefused r) % 256 ≡ numberOf r
@@ -87,6 +91,7 @@ number-back Short = refl
 number-back Malformed = refl
 number-back Nothing = refl
 number-back Sealed = refl
+number-back OutOfRange = refl
 
 pub cause-back : (r : Refusal) → resultOf (saidRefused r) / 256 ≡ getD (valuesOf r []) 0 0
 cause-back Shape = refl
@@ -101,6 +106,7 @@ cause-back Short = refl
 cause-back Malformed = refl
 cause-back Nothing = refl
 cause-back Sealed = refl
+cause-back OutOfRange = refl
 
 -- the result is 0, 1 or 2 exactly when the number is
 pub small : (said : Said) (n : ℕ) → n < 3 → (resultOf said ≡ n) ↔ (said .number ≡ n)

@@ -17,7 +17,7 @@ ghost use Rattle.rules.specs.Refusals.{numberOf, causeNumber, valuesOf, saidRef
 ghost use Rattle.rules.specs.Answers.{saidDone, saidNumber, saidSame, saidInserted, saidJoined, saidSeal, saidRemoved, saidOld};
 ghost use Rattle.numbers.specs.Numbers.{Answered, flag, resultOf, values, valuesOver, removalNumbers};
 
-// Refusals 1 to 8, 10 and 12.
+// Refusals 1 to 8, 10, 12 and 13.
 pub fn number_of(r: Refusal) -> u64
     ensures { λ n. ⌜ n ≡ numberOf r ⌝ }
 {
@@ -32,6 +32,7 @@ pub fn number_of(r: Refusal) -> u64
         Refusal::Malformed => 8,
         Refusal::Nothing => 10,
         Refusal::Sealed => 12,
+        Refusal::OutOfRange => 13,
     }
 }
 

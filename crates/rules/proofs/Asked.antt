@@ -12,7 +12,7 @@ use Rattle.rules.specs.declared.Memory.{Memory}
 use Rattle.rules.specs.declared.Found.{Found}
 use Rattle.rules.specs.declared.Found.the-variants as lookup
 use Rattle.rules.specs.declared.Cause.the-variants.{NoSlot, FreeSlot, OtherGeneration}
-use Rattle.rules.specs.declared.Refusal.the-variants.{Shape, Unsound, Dead, SameClass, NoElement, NoShared, Short, Malformed, Nothing, Sealed}
+use Rattle.rules.specs.declared.Refusal.the-variants.{Shape, Unsound, Dead, SameClass, NoElement, NoShared, Short, Malformed, Nothing, Sealed, OutOfRange}
 use Rattle.rules.specs.Tables.{State}
 use Rattle.rules.specs.Refusals.{numberOf, causeNumber, valuesOf}
 use Rattle.rules.specs.Calls.{Call, lenSurject, inSameSurject, getElement, getShared, getSize, getTotal, lookup, setElement, setShared, check, newRun, insert, union, remove, removeShared, list, drain, seal, drainAll, clear, undo, exchange, compress, compressWith}
@@ -74,7 +74,7 @@ n number = number ∷ []
 abbrev d : ℕ → List ℕ
 d cause = 3 ∷ cause ∷ []
 
-pub order : map (λ r. map (λ q. numberOf q ∷ valuesOf q []) (earlier r)) (Shape ∷ Unsound ∷ Nothing ∷ Dead FreeSlot ∷ SameClass ∷ Sealed ∷ NoShared ∷ NoElement ∷ Short ∷ Malformed ∷ [])
+pub order : map (λ r. map (λ q. numberOf q ∷ valuesOf q []) (earlier r)) (Shape ∷ Unsound ∷ Nothing ∷ Dead FreeSlot ∷ SameClass ∷ Sealed ∷ NoShared ∷ NoElement ∷ Short ∷ Malformed ∷ OutOfRange ∷ [])
     ≡ []
     ∷ (n 1 ∷ [])
     ∷ (n 1 ∷ n 2 ∷ [])
@@ -84,6 +84,7 @@ pub order : map (λ r. map (λ q. numberOf q ∷ valuesOf q []) (earlier r)) (Sh
     ∷ (n 1 ∷ n 2 ∷ n 10 ∷ d 1 ∷ d 2 ∷ d 3 ∷ n 4 ∷ n 12 ∷ [])
     ∷ (n 1 ∷ n 2 ∷ n 10 ∷ d 1 ∷ d 2 ∷ d 3 ∷ n 4 ∷ n 12 ∷ n 6 ∷ [])
     ∷ (n 1 ∷ n 2 ∷ n 10 ∷ d 1 ∷ d 2 ∷ d 3 ∷ n 4 ∷ n 12 ∷ n 6 ∷ n 5 ∷ [])
+    ∷ []
     ∷ []
     ∷ []
 order = refl
@@ -231,6 +232,9 @@ nothing-to-undo = ((tt, refl), (λ h. let z : _≡_ {A = ℕ} 1 0 = ap (λ (m : 
 
 pub malformed : Sentence three [] nothing Malformed → ⊥
 malformed n = n
+
+pub out-of-range : Sentence three [] nothing OutOfRange → ⊥
+out-of-range n = n
 
 -- ---- a number is given, or none is
 

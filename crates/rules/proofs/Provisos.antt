@@ -14,8 +14,7 @@ use Rattle.rules.specs.Tables.{lastGeneration, State, found, LiveKey}
 use Rattle.rules.specs.Refusals.{Outcome}
 use Rattle.rules.specs.Slots.{empty, raised}
 use Rattle.rules.specs.Calls.{Call, newRun, remove, drainAll, clear, compress, compressWith, step, freshStep}
-use Rattle.rules.specs.History.{nothing}
-use Rattle.rules.specs.Demand.{start, Sequence, andThen}
+use Rattle.rules.specs.Demand.{Sequence, fromFresh, andThen}
 use Rattle.rules.specs.Stale.{Ends, answer, Quietly, call, Since, given, begun, Later, now, later, TakenOut, taken, cleared}
 use Rattle.rules.proofs.Cases.{rules, key}
 use Rattle.rules.proofs.Worked.{fresh43}
@@ -67,7 +66,7 @@ with s lent c = andThen s lent c (step (s .state) lent c) (goes-on (s .calls) le
 
 fresh-tables : Sequence
 unfolding rules
-fresh-tables = record { state = freshStep fresh43 4 3 .state; history = nothing; calls = start fresh43 4 3 refl }
+fresh-tables = fromFresh fresh43 4 3 refl
 
 abbrev first : Sequence
 first = with fresh-tables [] (newRun 10 100 0)

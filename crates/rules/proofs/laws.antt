@@ -33,6 +33,9 @@ pub mod DemandThree
 pub mod Marks
 pub mod Moves
 pub mod Stale
+pub mod HighestBit
+pub mod Ceiling
+pub mod UnionCeiling
 pub mod Closed
 pub mod Sealing
 pub mod UnionFrame

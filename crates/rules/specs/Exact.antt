@@ -11,7 +11,7 @@ use Rattle.rules.specs.declared.Key.{Key}
 use Rattle.rules.specs.declared.Cause.{Cause}
 use Rattle.rules.specs.declared.Cause.the-variants.{NoSlot, FreeSlot, OtherGeneration}
 use Rattle.rules.specs.declared.Refusal.{Refusal}
-use Rattle.rules.specs.declared.Refusal.the-variants.{Shape, Unsound, Dead, SameClass, NoElement, NoShared, Short, Malformed, Nothing, Sealed}
+use Rattle.rules.specs.declared.Refusal.the-variants.{Shape, Unsound, Dead, SameClass, NoElement, NoShared, Short, Malformed, Nothing, Sealed, OutOfRange}
 use Rattle.rules.specs.Tables.{frameWidth, generationOf, classOf, State, blank, Side, isFree, LiveKey, sizeAt, isSealed}
 use Rattle.rules.specs.Undo.{Whole}
 use Rattle.rules.specs.Refusals.{shaped}
@@ -139,8 +139,9 @@ Sentence st lent a NoShared = T (a .shared) × Full (st .head .shared)
 Sentence st lent a Short = length lent < a .numbers
 Sentence st lent a Malformed = ⊥
 Sentence st lent a Sealed = T (a .unsealed) × Some (λ k. T (isSealed st (k .slot))) (a .keys)
+Sentence st lent a OutOfRange = ⊥
 
--- Refusals, order: 1, 2, 10 (Ticket 7), 3, 4, 12 (Ticket 1), 6, 5, 7; 8 is the script program's alone
+-- Refusals, order: 1, 2, 10 (Ticket 7), 3, 4, 12 (Ticket 1), 6, 5, 7; 8 is the script program's alone, and 13 the ceiling's (Ticket 9)
 abbrev pub untilDead : List Refusal
 untilDead = Shape ∷ Unsound ∷ Nothing ∷ Dead NoSlot ∷ Dead FreeSlot ∷ Dead OtherGeneration ∷ []
 
@@ -155,6 +156,7 @@ earlier NoShared = untilDead ++ SameClass ∷ Sealed ∷ []
 earlier NoElement = untilDead ++ SameClass ∷ Sealed ∷ NoShared ∷ []
 earlier Short = untilDead ++ SameClass ∷ Sealed ∷ NoShared ∷ NoElement ∷ []
 earlier Malformed = []
+earlier OutOfRange = []
 
 -- a number's turn comes, if the sentence of no earlier number holds; and it is given, if its own then does
 abbrev pub Turn : State → (lent : List ℕ) → Call → Refusal → Type 0

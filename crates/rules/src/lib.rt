@@ -255,7 +255,7 @@ pub enum Cause {
     OtherGeneration,
 }
 
-// Numbers given on refusal, 1 to 8 in this order, and 12; 3 carries its cause.
+// Numbers given on refusal, 1 to 8 in this order, 10, 12 and 13; 3 carries its cause.
 pub enum Refusal {
     Shape,
     Unsound,
@@ -267,6 +267,7 @@ pub enum Refusal {
     Malformed,
     Nothing,
     Sealed,
+    OutOfRange,
 }
 
 // What looking up a key finds: its slot, or why it is dead.

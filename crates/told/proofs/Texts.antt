@@ -9,7 +9,7 @@ use mathlib.Core.Bool.{Bool}
 use mathlib.Core.List.{List, [], _∷_, _++_}
 use Rattle.rules.specs.declared.Cause.the-variants.{NoSlot, FreeSlot, OtherGeneration}
 use Rattle.rules.specs.declared.Refusal.{Refusal}
-use Rattle.rules.specs.declared.Refusal.the-variants.{Shape, Unsound, Dead, SameClass, NoElement, NoShared, Short, Malformed, Nothing, Sealed}
+use Rattle.rules.specs.declared.Refusal.the-variants.{Shape, Unsound, Dead, SameClass, NoElement, NoShared, Short, Malformed, Nothing, Sealed, OutOfRange}
 use Rattle.rules.specs.Refusals.{Outcome, numberOf, valuesOf}
 use Rattle.rules.specs.Answers.{saidBeside}
 use Rattle.rules.specs.Script.{bytes, decimal, causeText, refusedText}
@@ -26,6 +26,7 @@ text-refused print Short over lent = refl
 text-refused print Malformed over lent = refl
 text-refused print Nothing over lent = refl
 text-refused print Sealed over lent = refl
+text-refused print OutOfRange over lent = refl
 
 -- a refusal's number has at most two digits, its cause one
 pub two-digits : (r : Refusal) → length (decimal (numberOf r)) ≤ 2
@@ -40,6 +41,7 @@ two-digits Short = lit≤ tt
 two-digits Malformed = lit≤ tt
 two-digits Nothing = lit≤ tt
 two-digits Sealed = lit≤ tt
+two-digits OutOfRange = lit≤ tt
 
 pub one-cause : (r : Refusal) → causeOrNone (getD (valuesOf r []) 0 0) ≡ causeText (valuesOf r [])
 one-cause Shape = refl
@@ -54,6 +56,7 @@ one-cause Short = refl
 one-cause Malformed = refl
 one-cause Nothing = refl
 one-cause Sealed = refl
+one-cause OutOfRange = refl
 
 pub cause-text : (n : ℕ) → (n ≡ 0 → ⊥) → n ≤ 3 → bytes " cause " ++ (48 + n) ∷ [] ≡ causeOrNone n
 unfolding decimal

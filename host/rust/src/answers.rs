@@ -66,6 +66,8 @@ pub enum Refusal {
     /// The run is sealed: it was saved as it stood, no frame may come into it by an insert or a union, and it cannot be
     /// sealed again. What comes too late begins a run of its own.
     Sealed,
+    /// A number handed in is not in its range.
+    OutOfRange,
 }
 
 impl Refusal {
@@ -81,6 +83,7 @@ impl Refusal {
             Refusal::Short => 7,
             Refusal::Nothing => 10,
             Refusal::Sealed => 12,
+            Refusal::OutOfRange => 13,
         }
     }
 
@@ -104,6 +107,7 @@ impl Refusal {
             7 => Refusal::Short,
             10 => Refusal::Nothing,
             12 => Refusal::Sealed,
+            13 => Refusal::OutOfRange,
             crate::sys::ABSENT => panic!("the archive lacks this entry"),
             n => unreachable!("no entry gives {n}"),
         })
@@ -122,6 +126,7 @@ impl fmt::Display for Refusal {
             Refusal::Short => "a buffer has fewer places than needed",
             Refusal::Nothing => "there is no union to take back",
             Refusal::Sealed => "the run is sealed, no frame may come into it",
+            Refusal::OutOfRange => "a number is out of its range",
         };
         write!(f, "refused {}: {why}", self.number())
     }

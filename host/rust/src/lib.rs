@@ -76,6 +76,7 @@
 
 mod answers;
 mod arena;
+mod figures;
 pub mod sys;
 mod tables;
 mod writer;
@@ -83,6 +84,7 @@ mod writer;
 pub use answers::{Cause, Compressed, Joined, Key, Moved, Record, Refusal, Removed, RemovedShared};
 pub use answers::{SealedFrame, SealedHeader, SealedRun};
 pub use arena::Arena;
+pub use figures::union_ceiling;
 pub use tables::{Borrowed, Owned, Tables};
 pub use writer::Writer;
 

@@ -347,6 +347,8 @@ unsafe extern "C" {
         out: *mut [u64; 2],
     ) -> u64;
 
+    pub fn doorsedge_union_ceiling(n: u64, out: *mut [u64; 1]) -> u64;
+
     pub fn doorsedge_insert_in_place(
         head: *mut LentHead,
         elems: *mut u64,

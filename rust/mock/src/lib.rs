@@ -138,6 +138,17 @@ pub unsafe extern "C" fn doorsedge_undo(
     unsafe { enter(head, elems, elems_len, shared, shared_len, Call::Undo, none, 0, none) }
 }
 
+#[unsafe(no_mangle)]
+pub unsafe extern "C" fn doorsedge_union_ceiling(n: u64, out: *mut [u64; 1]) -> u64 {
+    match model::figures::union_ceiling(n) {
+        Ok(figure) => {
+            unsafe { *out = [figure] };
+            0
+        }
+        Err(refusal) => refusal.result(),
+    }
+}
+
 entry!(doorsedge_len_surject(slot, generation) => Call::LenSurject(key(slot, generation)));
 entry!(doorsedge_in_same_surject(slot0, generation0, slot1, generation1) => Call::InSameSurject(key(slot0, generation0), key(slot1, generation1)));
 entry!(doorsedge_get(slot, generation) => Call::Get(key(slot, generation)));

@@ -91,6 +91,7 @@ pub enum Refusal {
     Short,
     Nothing,
     Sealed,
+    OutOfRange,
 }
 
 impl Refusal {
@@ -106,6 +107,7 @@ impl Refusal {
             Refusal::Short => 7,
             Refusal::Nothing => 10,
             Refusal::Sealed => 12,
+            Refusal::OutOfRange => 13,
         }
     }
 

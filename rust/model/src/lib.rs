@@ -12,10 +12,12 @@
 //! - [sets]: soundness sentence by sentence, by sets, to test the check with
 //! - [described]: the sentence of soundness about what the head remembers, by taking the union back and making it again
 //! - [door]: the host's calls: shape and soundness first
+//! - [figures]: the ceiling on union work, which takes no tables
 
 pub mod check;
 pub mod described;
 pub mod door;
+pub mod figures;
 pub mod layout;
 pub mod ordered;
 pub mod rows;

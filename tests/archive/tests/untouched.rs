@@ -3,6 +3,7 @@
 //! every entry is had there.
 
 use archive::{Host, Lent, UNTOUCHED, every_call, key, run_at};
+use doorsedge::sys::doorsedge_union_ceiling;
 use model::door::{self, Call};
 use model::layout::{COUNT, MARK, SIZE, TOTAL};
 use model::{FRAME, HEADER, Key, check};
@@ -100,15 +101,21 @@ fn is_fault(end: &End) -> bool {
 /// How a child process ends that makes the call.
 fn end(parts: &Parts, call: &Call) -> End {
     let lent = parts.lent();
+    // Safety: over pages that are apart
+    child(|| unsafe { run_at(lent, call) })
+}
+
+/// The same of any entry.
+fn child(entry: impl Fn() -> u64) -> End {
     // an exit code has eight bits alone, and a result's cause stands above them
     let result = Pages::with(&[UNTOUCHED], SHARED);
     let mut status = 0;
-    // Safety: the child does nothing but the call, over pages that are apart
+    // Safety: the child does nothing but the call
     unsafe {
         let child = fork();
         assert!(child >= 0, "no process");
         if child == 0 {
-            result.start.write(run_at(lent, call));
+            result.start.write(entry());
             _exit(0);
         }
         assert_eq!(waitpid(child, &mut status, 0), child);
@@ -209,6 +216,14 @@ fn listed() -> BTreeSet<(String, u64)> {
     listed
 }
 
+/// How the ceiling of `n` ends with its `out` locked.
+fn ceiling_locked(n: u64) -> End {
+    let out = Pages::of(&[UNTOUCHED]);
+    out.lock();
+    // Safety: `out` has its one place
+    child(|| unsafe { doorsedge_union_ceiling(n, out.start.cast()) })
+}
+
 #[test]
 fn refusals_write_nothing() {
     let mut had = BTreeSet::new();
@@ -236,6 +251,9 @@ fn refusals_write_nothing() {
         }
     }
     assert!(wrote.is_empty(), "these refused, and wrote: {wrote:?}");
+    // the one entry that takes no tables
+    assert_eq!(ceiling_locked(0), End::Said(13));
+    had.insert(("union_ceiling".to_owned(), 13));
     assert_eq!(had, listed());
 }
 
@@ -243,6 +261,7 @@ fn refusals_write_nothing() {
 /// with none locked it goes through.
 #[test]
 fn accepted_calls_write() {
+    assert!(is_fault(&ceiling_locked(1)));
     let buffer = [77; 40];
     let mut stores = BTreeSet::new();
     let exchange = Call::ExchangeShared4([1, 3, 4, 5].map(|slot| key(slot, 1)), [1, 3, 4, 5]);

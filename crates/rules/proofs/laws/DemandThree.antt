@@ -8,7 +8,7 @@ use native.Mathlib.Omega.{arith}
 use lib.ListN.{length}
 use Rattle.rules.specs.declared.Key.{Key}
 use Rattle.rules.specs.declared.Refusal.{Refusal}
-use Rattle.rules.specs.declared.Refusal.the-variants.{Shape, Unsound, Dead, SameClass, NoElement, NoShared, Short, Malformed, Sealed, Nothing}
+use Rattle.rules.specs.declared.Refusal.the-variants.{Shape, Unsound, Dead, SameClass, NoElement, NoShared, Short, Malformed, Sealed, Nothing, OutOfRange}
 use Rattle.rules.specs.Notation.{_==_, _<?_}
 use Rattle.rules.specs.Tables.{classOf, State, sizeAt, isSealed}
 use Rattle.rules.specs.Refusals.{Ruling, refuse, Outcome, outcome, numberOf}
@@ -69,6 +69,7 @@ not-accepted Short = omega arith
 not-accepted Malformed = omega arith
 not-accepted Sealed = omega arith
 not-accepted Nothing = omega arith
+not-accepted OutOfRange = omega arith
 
 module _ (st : State) (h : History) (G : Good st h) (j k : Key) (lent : List ℕ) where
   -- what is claimed of an accepted union

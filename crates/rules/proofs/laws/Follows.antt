@@ -6,7 +6,7 @@ use Prim.Native.Nat.{ℕ}
 use Rattle.rules.specs.declared.Key.{Key}
 use Rattle.rules.specs.declared.Found.the-variants as lookup
 use Rattle.rules.specs.declared.Refusal.{Refusal}
-use Rattle.rules.specs.declared.Refusal.the-variants.{Shape, Unsound, Dead, SameClass, NoElement, NoShared, Short, Malformed, Sealed, Nothing}
+use Rattle.rules.specs.declared.Refusal.the-variants.{Shape, Unsound, Dead, SameClass, NoElement, NoShared, Short, Malformed, Sealed, Nothing, OutOfRange}
 use Rattle.rules.specs.Notation.{if_then_else_}
 use Rattle.rules.specs.Tables.{State, LiveKey}
 use Rattle.rules.specs.Refusals.{Ruling, refuse, accept, outcome, withLive}
@@ -31,6 +31,7 @@ follows st lent h c r G (refused {r = Short}) = G
 follows st lent h c r G (refused {r = Malformed}) = G
 follows st lent h c r G (refused {r = Sealed}) = G
 follows st lent h c r G (refused {r = Nothing}) = G
+follows st lent h c r G (refused {r = OutOfRange}) = G
 follows st lent h c r G (done g) = g
 
 -- the same of what leads to good states

@@ -8,7 +8,7 @@ use native.Mathlib.Omega.{arith}
 use Rattle.rules.specs.declared.Key.{Key}
 use Rattle.rules.specs.declared.Memory.{Memory}
 use Rattle.rules.specs.declared.Refusal.{Refusal}
-use Rattle.rules.specs.declared.Refusal.the-variants.{Shape, Unsound, Dead, SameClass, NoElement, NoShared, Short, Malformed, Nothing, Sealed}
+use Rattle.rules.specs.declared.Refusal.the-variants.{Shape, Unsound, Dead, SameClass, NoElement, NoShared, Short, Malformed, Nothing, Sealed, OutOfRange}
 use Rattle.rules.specs.Notation.{if_then_else_}
 use Rattle.rules.specs.Tables.{blank, State, elemSide}
 use Rattle.rules.specs.Sound.{bothFit}
@@ -96,6 +96,7 @@ module _ (st : State) (lent : List ℕ) (h : History) (G : Good st h) (M : Recal
       refused Malformed = M
       refused Nothing = M
       refused Sealed = M
+      refused OutOfRange = M
 
       go : (r : Ruling) → Accepted (Then (effect c) st) r → Recalls (outcome st lent r .state) (noted h c (outcome st lent r .said))
       go (refuse r) t = refused r
