@@ -22,7 +22,11 @@ use Rattle.rules.proofs.laws.Tests.{eq-is}
 use Rattle.rules.proofs.laws.Refused.{refused-changes-nothing, refused-fresh}
 use Rattle.numbers.specs.Numbers.{headOf, values, Answered}
 use Rattle.promises.specs.Host.{Left, left, shown, AtHost, AtFresh}
+use Rattle.rules.specs.TwoTables.{TwoOutcome}
+use Rattle.rules.specs.Copy.{AtCopy}
+use Rattle.rules.proofs.laws.Copying.{copying}
 use Rattle.promises.specs.InPlace.{AtHead, leftAt}
+use Rattle.promises.specs.Two.{leftTwo, AtHostCopy}
 use Rattle.numbers.proofs.Told.{small}
 
 -- a refused call, whose number is not 0, hands back the head that it was given: so that the head is the next one also where it was not stored
@@ -72,6 +76,24 @@ freshened elemCapacity sharedCapacity head elems shared h next said r after elem
     let told : left r after elems′ shared′ [] [] ≡ shown values [] (leaves next elems′ shared′ [] said) =
     λ i. record { number = a .number i; state = stateOf (same i) elems′ shared′; lent = []; out = a .out i } in
     record { same = told ∙ ap (shown values []) (d ∙ ap (λ (k : Head). freshStep (stateOf k elems shared) elemCapacity sharedCapacity) p) }
+
+-- the same of the copy: the target's head is stored if it was accepted, the source is as it was
+module _ (head elems shared fromHead fromElems fromShared : List ℕ) where
+  pub copied-to : (h source next : Head) (said : Said) (r : ℕ) (after elems′ shared′ : List ℕ)
+      → h ≡ headOf head → source ≡ headOf fromHead
+      → AtCopy (stateOf h elems shared) (stateOf source fromElems fromShared) (record { said = said; target = stateOf next elems′ shared′; source = stateOf source fromElems fromShared })
+      → Answered values said [] r []
+      → headOf after ≡ (if r == 0 then next else headOf head)
+      → AtHostCopy head elems shared fromHead fromElems fromShared (leftTwo r after elems′ shared′ fromHead fromElems fromShared [])
+  copied-to h source next said r after elems′ shared′ p f d a q =
+      let o : TwoOutcome = record { said = said; target = stateOf next elems′ shared′; source = stateOf source fromElems fromShared } in
+      let unchanged : r ≢ 0 → next ≡ headOf head = λ n. ap (λ (st : State). st .head) (copying (stateOf h elems shared) (stateOf source fromElems fromShared) o d .refused (λ e. n (a .number ∙ small said 0 (lit< tt) .1 e))) ∙ p in
+      let same : headOf after ≡ next = q ∙ kept r next (headOf head) unchanged in
+      record {
+        outcome = record { said = said; target = stateOf next elems′ shared′; source = stateOf (headOf fromHead) fromElems fromShared };
+        door = rw (p, f) at d;
+        same = λ i. record { number = a .number i; target = stateOf (same i) elems′ shared′; source = stateOf (headOf fromHead) fromElems fromShared; out = a .out i };
+      }
 
 -- the same of an entry whose head is lent in place
 pub held : (c : Call) (numbers : Said → List ℕ) (head : Head) (elems shared out : List ℕ) (next : Head) (said : Said) (r : ℕ) (elems′ shared′ out′ : List ℕ)

@@ -6,4 +6,5 @@ mod ordered;
 mod reads;
 mod seals;
 mod sets;
+mod two;
 mod whole;

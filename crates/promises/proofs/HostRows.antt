@@ -5,12 +5,15 @@ use mathlib.Core.Bool.{true, false}
 use mathlib.Core.List.{List, [], _∷_, map}
 use lib.ListN.{replicate}
 use Rattle.rules.specs.declared.Head.{Head}
+use Rattle.rules.specs.Tables.{State}
 use Rattle.rules.specs.Refusals.{Said, Outcome}
+use Rattle.rules.specs.TwoTables.{TwoOutcome}
 use Rattle.rules.specs.Calls.{Call, lenSurject, inSameSurject, getElement, getShared, getSize, getTotal, lookup, setElement, setShared, check, newRun, insert, union, remove, removeShared, list, drain, drainAll, clear, undo, exchange, compress}
 use Rattle.rules.proofs.Cases.{key, pool}
 use Rattle.numbers.specs.Numbers.{headOf, values, valuesOver, removalNumbers}
 use Rattle.promises.specs.Host.{keyOf, keysOf, isSet, Left, left, shown}
 use Rattle.promises.specs.InPlace.{leftAt}
+use Rattle.promises.specs.Two.{leftTwo, shownTwo}
 use Rattle.promises.specs.Sequence.{numbersOf, heard, lentState}
 
 -- a key's slot, then its generation; four keys one after another
@@ -83,3 +86,20 @@ plain =
 
 tells-values : told plain ≡ replicate 18 (61 ∷ 62 ∷ [])
 tells-values = refl
+
+-- two recorders' tables: each part of both sides is its own
+abbrev lentTo : List ℕ
+lentTo = 71 ∷ 72 ∷ 73 ∷ 74 ∷ 75 ∷ 76 ∷ 77 ∷ 78 ∷ 79 ∷ 83 ∷ 84 ∷ 85 ∷ 86 ∷ []
+
+abbrev source : State
+source = record { head = record { elems = pool 71 72 73 74; shared = pool 75 76 77 78; generation = 79; undo = record { kept = 83; gone = 84; moved = 85; value = 86 } }; elems = 81 ∷ []; shared = 82 ∷ [] }
+
+leaves-two : leftTwo 4 lent (21 ∷ 22 ∷ []) (31 ∷ 32 ∷ []) lentTo (81 ∷ []) (82 ∷ []) (51 ∷ []) ≡ record { number = 4; target = leaving .state; source = source; out = 51 ∷ [] }
+unfolding headOf
+leaves-two = refl
+
+abbrev twoOf : (number : ℕ) → TwoOutcome
+twoOf number = record { said = record { number = number; values = 61 ∷ []; over = true }; target = leaving .state; source = source }
+
+shows-two : map (λ (n : ℕ). shownTwo valuesOver (51 ∷ []) (twoOf n)) (0 ∷ 5 ∷ []) ≡ record { number = 0; target = leaving .state; source = source; out = 61 ∷ 1 ∷ [] } ∷ record { number = 5; target = leaving .state; source = source; out = 51 ∷ [] } ∷ []
+shows-two = refl

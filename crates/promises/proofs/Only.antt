@@ -1,15 +1,18 @@
 -- No second result, head, tables, buffer and `out` fit what an entry promises.
 use Prim.Native.Nat.{ℕ}
-use mathlib.Core.Path.{_≡_, sym, ap, _∙_}
+use mathlib.Core.Path.{_≡_, refl, sym, ap, _∙_}
 use mathlib.Core.List.{List, []}
 use lib.ListN.{length}
 use Rattle.rules.specs.declared.Head.{Head}
 use Rattle.rules.specs.Refusals.{Said}
 use Rattle.rules.specs.Calls.{Call}
 use Rattle.rules.proofs.Door
+use Rattle.rules.proofs.laws.TwoDoors.{two-only}
+use Rattle.numbers.specs.Numbers.{values}
 use Rattle.numbers.proofs.Thirteen.{only-thirteen}
 use Rattle.promises.specs.Host.{Left, left, shown, AtHost, AtFresh}
 use Rattle.promises.specs.InPlace.{leftAt, AtHead}
+use Rattle.promises.specs.Two.{TwoLeft, leftTwo, shownTwo, AtHostCopy}
 
 -- equal in all that a host lent or was given: the result, the head, both tables, the buffer and `out`
 pub record Same {H : Type 0} (r r′ : ℕ) (h h′ : H) (e e′ s s′ l l′ o o′ : List ℕ) : Type 0 where
@@ -70,3 +73,35 @@ pub only-at-head : (c : Call) (numbers : Said → List ℕ) (head : Head) (elems
 only-at-head c numbers head elems shared out r r′ h h′ e e′ s s′ o o′ p q =
     told (leftAt r h e s o) (leftAt r′ h′ e′ s′ o′)
     (p .same ∙ ap (shown numbers out) (Door.only _ [] c (p .outcome) (q .outcome) (p .door) (q .door)) ∙ sym (q .same))
+
+-- an entry on two recorders' tables: all of both sides
+told-two : (r r′ : ℕ) (h h′ e e′ s s′ k k′ f f′ g g′ o o′ : List ℕ) → length h ≡ 13 → length h′ ≡ 13 → length k ≡ 13 → length k′ ≡ 13 → leftTwo r h e s k f g o ≡ leftTwo r′ h′ e′ s′ k′ f′ g′ o′
+    → Same r r′ h h′ e e′ s s′ [] [] o o′ × Same r r′ k k′ f f′ g g′ [] [] o o′
+told-two r r′ h h′ e e′ s s′ k k′ f f′ g g′ o o′ n n′ m m′ q =
+    let number = ap (λ (t : TwoLeft). t .number) q in
+    let out = ap (λ (t : TwoLeft). t .out) q in (
+      record {
+        result = number;
+        head = only-thirteen h h′ n n′ (ap (λ (t : TwoLeft). t .target .head) q);
+        elems = ap (λ (t : TwoLeft). t .target .elems) q;
+        shared = ap (λ (t : TwoLeft). t .target .shared) q;
+        lent = refl;
+        out = out;
+      },
+      record {
+        result = number;
+        head = only-thirteen k k′ m m′ (ap (λ (t : TwoLeft). t .source .head) q);
+        elems = ap (λ (t : TwoLeft). t .source .elems) q;
+        shared = ap (λ (t : TwoLeft). t .source .shared) q;
+        lent = refl;
+        out = out;
+      },
+    )
+
+pub only-at-copy : (head elems shared fromHead fromElems fromShared : List ℕ) (r r′ : ℕ) (h h′ e e′ s s′ k k′ f f′ g g′ : List ℕ) → length h ≡ 13 → length h′ ≡ 13 → length k ≡ 13 → length k′ ≡ 13
+    → AtHostCopy head elems shared fromHead fromElems fromShared (leftTwo r h e s k f g [])
+    → AtHostCopy head elems shared fromHead fromElems fromShared (leftTwo r′ h′ e′ s′ k′ f′ g′ [])
+    → Same r r′ h h′ e e′ s s′ [] [] [] [] × Same r r′ k k′ f f′ g g′ [] [] [] []
+only-at-copy head elems shared fromHead fromElems fromShared r r′ h h′ e e′ s s′ k k′ f f′ g g′ n n′ m m′ p q =
+    told-two r r′ h h′ e e′ s s′ k k′ f f′ g g′ [] [] n n′ m m′
+    (p .same ∙ ap (shownTwo values []) (two-only _ _ _ _ (p .outcome) (q .outcome) (p .door) (q .door)) ∙ sym (q .same))

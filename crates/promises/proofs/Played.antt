@@ -8,9 +8,10 @@ use Rattle.rules.specs.Tables.{frameWidth, headerWidth}
 use Rattle.rules.specs.Calls.{newRun, insert, union, undo, remove}
 use Rattle.rules.specs.History.{History, Given, othersOf, runsBut, insertedRuns, joinedRuns, removedRuns, nothing}
 use Rattle.rules.proofs.Cases.{rules, key, ez, mz, zeros}
+use Rattle.rules.proofs.CasesCopied.{copies}
 use Rattle.numbers.specs.Numbers.{headOf}
-use Rattle.promises.specs.Sequence.{AfterEntries, freshened, called, calledInPlace}
-use Rattle.promises.proofs.Sequences.{begins, goes-on, goes-on-in-place}
+use Rattle.promises.specs.Sequence.{AfterEntries, freshened, called, calledInPlace, copied}
+use Rattle.promises.proofs.Sequences.{begins, goes-on, goes-on-in-place, copies-to}
 
 abbrev given : Key → ℕ → Given
 given k z = record { key = k; bytes = z }
@@ -70,3 +71,13 @@ kept = freshened left 3 4 1 _ _ _ (record { same = refl })
 again : AfterEntries (4 ∷ 0 ∷ 0 ∷ 0 ∷ 3 ∷ 0 ∷ 0 ∷ 0 ∷ 1 ∷ 0 ∷ 0 ∷ 0 ∷ 0 ∷ []) (zeros frameWidth 4) (zeros headerWidth 3) (toldAfter [] [] 3 3 1)
 unfolding rules headOf
 again = freshened kept 4 3 0 _ _ _ (record { same = refl })
+
+-- Ticket 10: the tables copied to others that hold numbers which mean nothing: a history of two frames put in
+copiedTo : AfterEntries (2 ∷ 2 ∷ 0 ∷ 2 ∷ 1 ∷ 1 ∷ 0 ∷ 1 ∷ 2 ∷ 0 ∷ 0 ∷ 0 ∷ 0 ∷ []) (ez 1 10 1 2 2 7 ++ ez 1 11 1 1 1 20) (mz 2 100 0 27) (told ((key 2 1 ∷ key 1 1 ∷ []) ∷ []) (given (key 2 1) 20 ∷ given (key 1 1) 7 ∷ []) 2 0 2)
+unfolding rules copies headOf
+copiedTo = copied left (2 ∷ 91 ∷ 92 ∷ 93 ∷ 1 ∷ 94 ∷ 95 ∷ 96 ∷ 97 ∷ 1 ∷ 2 ∷ 1 ∷ 98 ∷ []) (replicate 12 9) (replicate 5 8) _ _ _ (copies-to left (2 ∷ 91 ∷ 92 ∷ 93 ∷ 1 ∷ 94 ∷ 95 ∷ 96 ∷ 97 ∷ 1 ∷ 2 ∷ 1 ∷ 98 ∷ []) (replicate 12 9) (replicate 5 8) refl refl)
+
+-- just after the union: the copy has nothing to undo
+copiedJoined : AfterEntries (3 ∷ 3 ∷ 0 ∷ 3 ∷ 1 ∷ 1 ∷ 0 ∷ 1 ∷ 1 ∷ 0 ∷ 0 ∷ 0 ∷ 0 ∷ []) (ez 1 10 1 2 3 7 ++ ez 1 11 1 3 1 20 ++ ez 1 20 1 1 2 4000) (mz 3 100 0 4027) (told ((key 3 1 ∷ key 2 1 ∷ key 1 1 ∷ []) ∷ []) (given (key 3 1) 4000 ∷ given (key 2 1) 20 ∷ given (key 1 1) 7 ∷ []) 3 0 1)
+unfolding rules copies headOf
+copiedJoined = copied joined (3 ∷ 91 ∷ 92 ∷ 93 ∷ 1 ∷ 94 ∷ 95 ∷ 96 ∷ 97 ∷ 1 ∷ 2 ∷ 1 ∷ 98 ∷ []) (replicate 18 9) (replicate 5 8) _ _ _ (copies-to joined (3 ∷ 91 ∷ 92 ∷ 93 ∷ 1 ∷ 94 ∷ 95 ∷ 96 ∷ 97 ∷ 1 ∷ 2 ∷ 1 ∷ 98 ∷ []) (replicate 18 9) (replicate 5 8) refl refl)

@@ -10,21 +10,25 @@ use Rattle.rules.specs.declared.Key.{Key}
 use Rattle.rules.specs.Notation.{if_then_else_, _==_}
 use Rattle.rules.specs.Tables.{State, isSealed}
 use Rattle.rules.specs.Sound.{bothFit}
-use Rattle.rules.specs.Refusals.{Ruling, Said, Outcome, outcome}
+use Rattle.rules.specs.Refusals.{Ruling, Said, Outcome, outcome, shaped}
 use Rattle.rules.specs.Slots
 use Rattle.rules.specs.Slots.{isFull}
 use Rattle.rules.specs.Runs
 use Rattle.rules.specs.Calls.{Call, lenSurject, inSameSurject, getElement, getShared, getSize, getTotal, lookup, setElement, setShared, check, newRun, insert, union, remove, removeShared, list, drain, seal, drainAll, clear, undo, exchange, compress, compressWith, step, freshStep, AtDoor}
-use Rattle.rules.specs.History.{History, accepted, noted, notedFresh, nothing}
-use Rattle.rules.specs.Demand.{After, start, fresh, call, Union}
+use Rattle.rules.specs.History.{History, accepted, noted, notedFresh, nothing, begunWith}
+use Rattle.rules.specs.Demand.{After, start, fresh, call, copy, Union}
 use Rattle.rules.proofs.laws.Rulings.{by-test, by-key}
+use Rattle.rules.specs.Copy.{cloneStep}
+use Rattle.rules.proofs.laws.TwoDoors.{both-pass}
 use Rattle.rules.proofs.laws.DemandThree
+use Rattle.rules.proofs.laws.Recalls.{remembers}
 use Rattle.numbers.specs.Numbers.{headOf, values, resultOf}
 use Rattle.numbers.proofs.Told.{zero-result, small}
 use Rattle.numbers.proofs.Thirteen.{thirteenOf, head-of-thirteen}
 use Rattle.promises.specs.Host.{Left, left, shown, AtHost}
 use Rattle.promises.specs.InPlace.{leftAt, AtHead}
-use Rattle.promises.specs.Sequence.{numbersOf, heard, lentState, AfterEntries, begun, freshened, called, calledInPlace, Demand3AtHost}
+use Rattle.promises.specs.Two.{TwoLeft, leftTwo, shownTwo, AtHostCopy}
+use Rattle.promises.specs.Sequence.{numbersOf, heard, lentState, AfterEntries, begun, freshened, called, calledInPlace, copied, Demand3AtHost}
 
 -- the history takes from the numbers in `out` what it takes from the answer: the key of a frame put in
 accepted-heard : (h : History) (c : Call) (said : Said) → accepted h c (numbersOf c said) ≡ accepted h c (said .values)
@@ -85,6 +89,9 @@ after-entries (called {h = h} a c lent out r head′ elems′ shared′ lent′ 
     leads h c _ (after-entries a) lent out (left r head′ elems′ shared′ lent′ out′) (p .outcome) (p .door) (p .same)
 after-entries (calledInPlace {h = h} a c out r head′ elems′ shared′ out′ p) =
     leads h c _ (after-entries a) [] out (leftAt r (headOf head′) elems′ shared′ out′) (p .outcome) (p .door) (p .same)
+after-entries (copied {head = head} {elems = elems} {shared = shared} {h = h} a toHead toElems toShared head′ elems′ shared′ p) =
+    subst (λ (l : TwoLeft). After (l .target) (begunWith h)) (sym (p .same))
+    (copy (after-entries a) (lentState toHead toElems toShared) (p .outcome) (p .door) (small (p .outcome .said) 0 (lit< tt) .0 (sym (ap (λ (l : TwoLeft). l .number) (p .same)))))
 
 -- a first fresh over any head and tables that fit begins one
 pub begins : (elemCapacity sharedCapacity : ℕ) (head elems shared : List ℕ) → bothFit (lentState head elems shared) elemCapacity sharedCapacity ≡ true
@@ -114,6 +121,20 @@ module _ {head elems shared : List ℕ} {h : History} (a : AfterEntries head ele
         let l = shown (numbersOf c) out (step (lentState head elems shared) [] c) in
         rw head-of-thirteen (λ i. record { number = l .number; state = l .state; lent = sym e i; out = l .out });
   }
+
+-- and so can a copy to a head and tables that fit: its entry leaves what its own rule says
+pub copies-to : {head elems shared : List ℕ} {h : History} → AfterEntries head elems shared h → (toHead toElems toShared : List ℕ) → shaped (lentState toHead toElems toShared) ≡ true
+    → let o = cloneStep (lentState toHead toElems toShared) (lentState head elems shared) in
+    o .source ≡ lentState head elems shared → AtHostCopy toHead toElems toShared head elems shared (leftTwo (resultOf (o .said)) (thirteenOf (o .target .head)) (o .target .elems) (o .target .shared) head elems shared (shownTwo values [] o .out))
+copies-to {head} {elems} {shared} {h} a toHead toElems toShared t e =
+    let R = DemandThree.after-good (after-entries a) .ready in
+    let M = remembers (lentState head elems shared) h (DemandThree.after-recalls (after-entries a)) in
+    let o = cloneStep (lentState toHead toElems toShared) (lentState head elems shared) in
+    record {
+      outcome = o;
+      door = both-pass _ _ _ _ o (R .shape) t (R .sound, M) refl;
+      same = rw head-of-thirteen (λ i. record { number = resultOf (o .said); target = o .target; source = sym e i; out = shownTwo values [] o .out });
+    }
 
 -- the two calls that have such an entry write to no buffer
 module _ (st : State) (k : Key) where

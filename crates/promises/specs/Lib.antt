@@ -1,3 +1,4 @@
 pub mod Host
 pub mod InPlace
+pub mod Two
 pub mod Sequence

@@ -7,11 +7,12 @@ use Rattle.rules.specs.declared.Key.{Key}
 use Rattle.rules.specs.Tables.{State, stateOf}
 use Rattle.rules.specs.Refusals.{Said}
 use Rattle.rules.specs.Calls.{Call, lenSurject, inSameSurject, getElement, getShared, getSize, getTotal, lookup, setElement, setShared, check, newRun, insert, union, remove, removeShared, list, drain, seal, drainAll, clear, undo, exchange, compress, compressWith}
-use Rattle.rules.specs.History.{History, noted, notedFresh, nothing}
+use Rattle.rules.specs.History.{History, noted, notedFresh, nothing, begunWith}
 use Rattle.rules.specs.Demand.{Agrees, Union}
 use Rattle.numbers.specs.Numbers.{headOf, values, valuesOver, removalNumbers}
 use Rattle.promises.specs.Host.{Left, left, AtHost, AtFresh}
 use Rattle.promises.specs.InPlace.{leftAt, AtHead}
+use Rattle.promises.specs.Two.{leftTwo, AtHostCopy}
 
 -- the numbers that the entry of a call writes to `out`
 abbrev pub numbersOf : Call → Said → List ℕ
@@ -66,6 +67,11 @@ pub data AfterEntries : (head elems shared : List ℕ) → History → Type 0 wh
       → (c : Call) (out : List ℕ) (r : ℕ) (head′ elems′ shared′ out′ : List ℕ)
       → AtHead c (numbersOf c) (headOf head) elems shared out (leftAt r (headOf head′) elems′ shared′ out′)
       → AfterEntries head′ elems′ shared′ (noted h c (heard r out′))
+  -- Ticket 10: a copy that answers 0 from such a head and tables, to a head and tables that may hold anything
+  copied : {head elems shared : List ℕ} {h : History} → AfterEntries head elems shared h
+      → (toHead toElems toShared head′ elems′ shared′ : List ℕ)
+      → AtHostCopy toHead toElems toShared head elems shared (leftTwo 0 head′ elems′ shared′ head elems shared [])
+      → AfterEntries head′ elems′ shared′ (begunWith h)
 
 pub record Demand3AtHost : Type 0 where
   -- no entry but fresh answers 1 or 2: what follows is of the calls, and not of refusals

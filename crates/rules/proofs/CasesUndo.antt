@@ -17,14 +17,14 @@ use Rattle.rules.proofs.Cases.{rules, Case, _gives_, did, says, key, ok
 use Rattle.rules.proofs.Worked.{two, four, joined}
 
 -- three runs of one, with a shared slot on the free chain behind the last
-abbrev trio : State
+abbrev pub trio : State
 trio =
     at (pool 5 3 0 3) (pool 5 5 4 3) 1
     (e 1 10 1 1 1 ++ e 1 20 2 2 2 ++ e 1 30 3 3 3 ++ zeros frameWidth 2)
     (s 1 100 0 ++ s 1 200 0 ++ s 1 300 0 ++ s 0 0 5 ++ s 0 0 0)
 
 -- the first two joined, from either side; and then the third
-abbrev firstKept : State
+abbrev pub firstKept : State
 firstKept =
     joinedAs 1 2 1 200 (at (pool 5 3 0 3) (pool 5 5 2 2) 1
     (e 1 10 1 2 2 ++ e 1 20 1 1 1 ++ e 1 30 3 3 3 ++ zeros frameWidth 2)

@@ -10,7 +10,7 @@ use lib.ListN.{replicate}
 use Rattle.rules.specs.declared.Key.{Key}
 use Rattle.rules.specs.declared.Memory.{Memory}
 use Rattle.rules.specs.Tables.{frameWidth, headerWidth, blank, State, withUndo}
-use Rattle.rules.specs.Undo.{Describes, Remembers}
+use Rattle.rules.specs.Undo.{Describes, Remembers, Whole}
 use Rattle.rules.specs.Calls.{Call, lenSurject, inSameSurject, getElement, getShared, getSize, getTotal, lookup, setElement, setShared, check, newRun, insert, union, remove, removeShared, list, drain, seal, drainAll, clear, undo, exchange, compress, compressWith, Ready, AtDoor, step, freshStep}
 use Rattle.rules.proofs.Cases.{rules, Case, _gives_, did, says, key, ok, refused, pool, at, joinedAs, e, s, m, zeros}
 use Rattle.rules.proofs.Worked.{two, four, joined}
@@ -23,7 +23,7 @@ use Rattle.rules.proofs.laws.Described.{described}
 use Rattle.rules.proofs.laws.Dropped.{kept-memory}
 
 -- P4's state with another memory
-abbrev forged : (kept gone moved value : ℕ) → State
+abbrev pub forged : (kept gone moved value : ℕ) → State
 forged x y n v = joinedAs x y n v joined
 
 ready-joined : Ready joined
@@ -37,12 +37,12 @@ remembers-joined = kept-memory four ready-four (inl refl) [] (union (key 4 1) (k
 ready-forged : (x y n v : ℕ) → Ready (forged x y n v)
 ready-forged x y n v = ready-undo joined (record { kept = x; gone = y; moved = n; value = v }) ready-joined
 
+not-remembered : (st : State) → Ready st → (Traced st → ⊥) → (st .head .undo ≡ blank → ⊥) → Remembers st → ⊥
+not-remembered st R t b (inl e) = b e
+not-remembered st R t b (inr d) = t (described st R .0 d)
+
 at-2 : (st : State) → Ready st → (Traced st → ⊥) → (st .head .undo ≡ blank → ⊥) → AtDoor st [] check (refused 2 st [])
-at-2 st R t b = unsound st [] check (R .shape) (λ w. go (w .1))
-  where
-    go : (st .head .undo ≡ blank) ⊎ Describes st → ⊥
-    go (inl e) = b e
-    go (inr d) = t (described st R .0 d)
+at-2 st R t b = unsound st [] check (R .shape) (λ w. not-remembered st R t b (w .1))
 
 -- no slot kept; one past the extent; none moved; more than half; the walk ends elsewhere
 pub no-kept : AtDoor (forged 0 4 1 200) [] check (refused 2 (forged 0 4 1 200) [])
@@ -65,6 +65,10 @@ unfolding rules
 elsewhere = at-2 (forged 1 3 1 200) (ready-forged 1 3 1 200) (λ t. let z : _≡_ {A = ℕ} 4 3 = t .leads in omega arith) (λ e. omega (arith, ap (λ (m : Memory). m .gone) e))
 
 -- a value alone, where there is nothing
+pub value-unwhole : Whole (forged 0 0 0 7) → ⊥
+unfolding rules
+value-unwhole w = not-remembered (forged 0 0 0 7) (ready-forged 0 0 0 7) (λ t. t .kept) (λ e. omega (arith, ap (λ (m : Memory). m .value) e)) (w .1)
+
 pub value-alone : AtDoor (forged 0 0 0 7) [] check (refused 2 (forged 0 0 0 7) [])
 unfolding rules
 value-alone = at-2 (forged 0 0 0 7) (ready-forged 0 0 0 7) (λ t. t .kept) (λ e. omega (arith, ap (λ (m : Memory). m .value) e))

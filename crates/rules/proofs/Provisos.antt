@@ -14,10 +14,12 @@ use Rattle.rules.specs.Tables.{lastGeneration, State, found, LiveKey}
 use Rattle.rules.specs.Refusals.{Outcome}
 use Rattle.rules.specs.Slots.{empty, raised}
 use Rattle.rules.specs.Calls.{Call, newRun, remove, drainAll, clear, compress, compressWith, step, freshStep}
+use Rattle.rules.specs.Copy.{cloneStep}
 use Rattle.rules.specs.Demand.{Sequence, fromFresh, andThen}
 use Rattle.rules.specs.Stale.{Ends, answer, Quietly, call, Since, given, begun, Later, now, later, TakenOut, taken, cleared}
 use Rattle.rules.proofs.Cases.{rules, key}
 use Rattle.rules.proofs.Worked.{fresh43}
+use Rattle.rules.proofs.CasesCopied.{copies}
 use Rattle.rules.proofs.laws.Tests.{eq-is, is-false}
 use Rattle.rules.proofs.laws.DemandThree.{goes-on}
 use Rattle.rules.proofs.laws.Marks.{rises}
@@ -137,6 +139,11 @@ by-reset-with = back _ false 2 at-once (refl, refl)
 pub by-fresh : BroughtBack (λ st. freshStep st 4 3) false
 unfolding rules
 by-fresh = back _ false 2 at-once (refl, refl)
+
+-- Ticket 10: for a key that the target gave, a copy to it is a fresh call
+pub by-copy : BroughtBack (λ st. let o = cloneStep st (empty 1 1 1) in record { said = o .said; state = o .target; lent = [] }) false
+unfolding rules copies
+by-copy = back _ false 2 at-once (refl, refl)
 
 -- the clear's answer says overflow
 pub by-overflow : BroughtBack (λ st. step st [] clear) true

@@ -16,13 +16,13 @@ use Rattle.rules.proofs.Sounds.{live-range, free-range}
 use Rattle.rules.proofs.Unsound.{root-zero}
 
 -- a run of one in slot 2, shared slot 2; slot 1 of each table is free, and the roots are as given
-abbrev saved : (capacity root sharedRoot : ℕ) → State
+abbrev pub saved : (capacity root sharedRoot : ℕ) → State
 saved capacity root sharedRoot =
     at (pool capacity 2 root 1) (pool capacity 2 sharedRoot 1) 2
     (e 0 0 0 0 0 ++ e 1 20 2 2 2 ++ zeros frameWidth (capacity - 2))
     (s 0 0 0 ++ s 1 200 0 ++ zeros headerWidth (capacity - 2))
 
-abbrev chained : State
+abbrev pub chained : State
 chained = saved 2 1 1
 
 -- a second frame of the run, and a second run, in the slots that were free

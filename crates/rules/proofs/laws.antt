@@ -79,3 +79,8 @@ pub mod Undone
 pub mod Dropped
 pub mod Recalls
 pub mod UnionUndone
+pub mod TwoDoors
+pub mod Copied
+pub mod Copy
+pub mod CopyReads
+pub mod Copying

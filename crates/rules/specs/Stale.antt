@@ -12,7 +12,9 @@ use Rattle.rules.specs.Runs.{keyValues}
 use Rattle.rules.specs.Drains.{recordWidth, allDrained}
 use Rattle.rules.specs.Calls.{Call, newRun, insert, remove, removeShared, drain, drainAll, clear, compress, compressWith, lookup, AtDoor}
 use Rattle.rules.specs.Renaming.{Compresses}
-use Rattle.rules.specs.Demand.{Sequence, andThen, headerOf}
+use Rattle.rules.specs.TwoTables.{TwoOutcome}
+use Rattle.rules.specs.Copy.{AtCopy}
+use Rattle.rules.specs.Demand.{Sequence, andThen, copiedTo, headerOf}
 
 -- Rules 10 and 11: the overflow mark of the `i`th record that a drain wrote (docs/LAYOUT.md); it wrote as many as it answered
 abbrev pub overMark : Outcome → (i : ℕ) → ℕ
@@ -36,6 +38,8 @@ pub data Ends (st : State) (o : Outcome) : Call → Type 0 where
 -- a call more, refused or not, that does not end the premise
 pub data Quietly (s : Sequence) : Sequence → Type 0 where
   call : (lent : List ℕ) (c : Call) (o : Outcome) (d : AtDoor (s .state) lent c o) → (Ends (s .state) o c → ⊥) → Quietly s (andThen s lent c o d)
+  -- Ticket 10: for a copied key the premise reaches back into the source, and goes on with the target's calls from the copy on; for what the target held before, no sequence goes on
+  copied : (target : State) (o : TwoOutcome) (d : AtCopy target (s .state) o) (e : o .said .number ≡ 0) → Quietly s (copiedTo s target o d e)
 
 -- the accepted call in which a frame got the key `k`: it answered it; a compression gives every frame a new one, answered or not
 pub data Gives (o : Outcome) (k : Key) : Call → Type 0 where

@@ -1,6 +1,6 @@
 -- Demand 3, for every sequence of calls from fresh tables: the book's claim, proved.
 use mathlib.Core.Path.{_≡_, sym, ap, _∙_, subst, refl}
-use mathlib.Core.Logic.{_≢_}
+use mathlib.Core.Logic.{_≢_, inl}
 use mathlib.Core.Bool.{true≢false}
 use mathlib.Core.List.{List}
 use Prim.Native.Nat.{ℕ, suc, _≤_, _<_}
@@ -14,8 +14,10 @@ use Rattle.rules.specs.Tables.{classOf, State, sizeAt, isSealed}
 use Rattle.rules.specs.Refusals.{Ruling, refuse, Outcome, outcome, numberOf}
 use Rattle.rules.specs.Runs
 use Rattle.rules.specs.Calls.{Call, union, step, AtDoor}
-use Rattle.rules.specs.History.{History, runOf, othersOf, noted}
-use Rattle.rules.specs.Demand.{After, start, fresh, call, rewrites, Union, Demand3}
+use Rattle.rules.specs.TwoTables.{TwoOutcome}
+use Rattle.rules.specs.Copy.{AtCopy}
+use Rattle.rules.specs.History.{History, runOf, othersOf, noted, begunWith}
+use Rattle.rules.specs.Demand.{After, start, fresh, call, copy, rewrites, Union, Demand3}
 use Rattle.rules.proofs.Door
 use Rattle.rules.proofs.Exactly.{exactly-1, exactly-2}
 use Rattle.rules.proofs.laws.Tests.{eq-is, le-is, is-so, is-not}
@@ -26,6 +28,8 @@ use Rattle.rules.proofs.laws.Doors.{passed}
 use Rattle.rules.proofs.laws.Rulings.{by-test, by-key}
 use Rattle.rules.proofs.laws.Follows.{follows}
 use Rattle.rules.proofs.laws.Histories.Cleared.{good-start, good-fresh}
+use Rattle.rules.proofs.laws.Copying.{accepted-is, capacities}
+use Rattle.rules.proofs.laws.Histories.Copied.{good-copied}
 use Rattle.rules.proofs.laws.EveryCall.{call-follows}
 use Rattle.rules.proofs.laws.Recalls.{Recalls, remembers, call-recalls, start-recalls, fresh-recalls}
 use Rattle.rules.proofs.laws.UnionFrame.{third-frames, third-headers, rewrites-run}
@@ -38,11 +42,19 @@ pub good-call : {st : State} {h : History} → Good st h → Recalls st h → (l
 good-call {st} {h} G M lent c o d = subst (λ (q : Outcome). Good (q .state) (noted h c (q .said)) × Recalls (q .state) (noted h c (q .said))) (sym (at-door G M lent c o d))
     (follows st lent h c _ G (call-follows st lent h G M c), call-recalls st lent h G M c)
 
+-- Ticket 10: an accepted copy of a good state, which has nothing to undo
+good-copy : {st : State} {h : History} → Good st h → (target : State) (o : TwoOutcome) → AtCopy target st o → o .said .number ≡ 0 → Good (o .target) (begunWith h) × Recalls (o .target) (begunWith h)
+good-copy {st} {h} G target o d e =
+    let A = accepted-is target st o d e in
+    subst (λ (q : State). Good q (begunWith h) × Recalls q (begunWith h)) (sym (A .copy))
+    (good-copied (target .head .elems .capacity) (target .head .shared .capacity) st h G (capacities target (A .shape)) (A .room), inl refl)
+
 -- whatever the calls were, the state is ready, holds the history, and can be taken back to it
 after-both : {st : State} {h : History} → After st h → Good st h × Recalls st h
 after-both (start st elems shared e) = (good-start st elems shared e, start-recalls st elems shared e)
 after-both (fresh {st = st} {h = h} a elems shared) = let r = after-both a in (good-fresh st elems shared h (r .0), fresh-recalls st elems shared h (r .1))
 after-both (call a lent c o d) = let r = after-both a in good-call (r .0) (r .1) lent c o d
+after-both (copy a target o d e) = good-copy (after-both a .0) target o d e
 
 pub after-good : {st : State} {h : History} → After st h → Good st h
 after-good a = after-both a .0

@@ -29,7 +29,7 @@ use Rattle.rules.specs.Renaming.{Compresses, canonical, kept}
 use Rattle.rules.specs.History.{History, othersOf, runOf, runsBut, goingOn, insertedRuns, removedRuns, puttingIn, renaming, noted}
 use Rattle.rules.specs.Demand.{Sequence, headerOf}
 use Rattle.rules.specs.Sealing
-use Rattle.rules.specs.Stale.{Ends, Quietly, call, Gives, begun, put, renewed, Since, given, since, Later, now, later, Takes, removed, removedShared, drained, drainedAll, cleared, compressed, TakenOut, taken, StaysDead}
+use Rattle.rules.specs.Stale.{Ends, Quietly, call, copied, Gives, begun, put, renewed, Since, given, since, Later, now, later, Takes, removed, removedShared, drained, drainedAll, cleared, compressed, TakenOut, taken, StaysDead}
 use Rattle.rules.proofs.laws.Lists.{In, Out, all-at, out-not, nodup-parts}
 use Rattle.rules.proofs.laws.Keys.{key-path}
 use Rattle.rules.proofs.laws.Working.{view}
@@ -136,6 +136,7 @@ quietly-moves : (s : Sequence) {s′ : Sequence} → Quietly s s′ → Moves (s
 quietly-moves s (call lent c o d q) =
     let h = s .history in
     subst (λ (p : Outcome). (Ends (s .state) p c → ⊥) → Moves h (noted h c (p .said))) (sym (at-door (good-of s) (recalls-of s) lent c o d)) (call-goes (s .state) lent h (good-of s) (recalls-of s) c) q
+quietly-moves s (copied target o d e) = record { rises = omega arith; left = λ k i. inl i; came = λ k i. inl i }
 
 since-kept : (k : Key) {s : Sequence} → Since k s → Kept k (s .history)
 since-kept k (given s lent c o d n g) =

@@ -78,6 +78,20 @@ map-live : (P : Key → Type 0) (f g : Key → Key) (h : List (List Key)) → ((
 map-live P f g [] e a = refl
 map-live P f g (r ∷ h) e a = let p = all-parts P r (flat h) a in rw (all-live P f g r e (p .0), map-live P f g h e (p .1))
 
+-- what renumbered tables hold of a history, where the live keys get the names that `new` gives
+pub record Carried (v : View) (rs : List (List Key)) (ss : List Key) (gs : List Given) : Type 0 where
+  pub rings : Rep v rs
+  pub seals : Seals v ss
+  pub sizes : Givens v gs
+
+pub carried : (v v′ : View) (m : Renaming) (N : Renumbered v v′ m) (W : Working v) (new : Key → Key) → ((k : Key) → LiveKey v k → rekeyed v v′ m N W k ≡ new k)
+    → (rs : List (List Key)) (ss : List Key) (gs : List Given) → Carried v rs ss gs → Carried v′ (map (map new) rs) (map new ss) (map (namedAnew new) gs)
+carried v v′ m N W new told rs ss gs C = record {
+  rings = subst (λ (q : List (List Key)). Rep v′ q) (map-live (LiveKey v) (rekeyed v v′ m N W) new rs told (C .rings .live)) (rep-renumbered v v′ m N W rs (C .rings));
+  seals = subst (λ (q : List Key). Seals v′ q) (all-live (LiveKey v) (rekeyed v v′ m N W) new ss told (C .seals .live)) (seals-renumbered v v′ m N W ss (C .seals));
+  sizes = subst (λ (q : List Given). Givens v′ q) (given-live (LiveKey v) (rekeyed v v′ m N W) new gs told (C .sizes .live)) (givens-renumbered v v′ m N W gs (C .sizes));
+}
+
 -- THE STEP, of any compression in its own tables whose new keys are those that `new` gives
 module _ (st : State) (h : History) (G : Good st h) (fs cs : List ℕ) (E : Listed (view st .gen) fs) (C : Listed (view st .count) cs) (reset : Bool) where
   -- the live keys get the names that `new` gives
@@ -90,14 +104,13 @@ module _ (st : State) (h : History) (G : Good st h) (fs cs : List ℕ) (E : List
       let v = view st in
       let v′ = view (renumbered st fs cs (generationAfter reset (st .head .generation))) in
       let W = working st (G .ready) in
-      let m = byPlace fs cs in
-      let N = own-renumbers st W fs cs E C reset in
+      let D = carried v v′ (byPlace fs cs) (own-renumbers st W fs cs E C reset) W new told (h .runs) (h .sealed) (h .sizes) (record { rings = G .rings; seals = G .seals; sizes = G .sizes }) in
       record {
         ready = own-keeps st (G .ready) fs cs E C reset;
-        rings = subst (λ (q : List (List Key)). Rep v′ q) (map-live (LiveKey v) (rekeyed v v′ m N W) new (h .runs) told (G .rings .live)) (rep-renumbered v v′ m N W (h .runs) (G .rings));
+        rings = D .rings;
         generation = ap (generationAfter reset) (G .generation);
-        seals = subst (λ (ss : List Key). Seals v′ ss) (all-live (LiveKey v) (rekeyed v v′ m N W) new (h .sealed) told (G .seals .live)) (seals-renumbered v v′ m N W (h .sealed) (G .seals));
-        sizes = subst (λ (gs : List Given). Givens v′ gs) (given-live (LiveKey v) (rekeyed v v′ m N W) new (h .sizes) told (G .sizes .live)) (givens-renumbered v v′ m N W (h .sizes) (G .sizes));
+        seals = D .seals;
+        sizes = D .sizes;
         counts = omega (arith, ap length (flat-image new (h .runs)), length-map (flat (h .runs)) new, G .counts);
       }
 
