@@ -32,17 +32,26 @@
    alone. So who wants to offer an undo makes no other call in between; and of several unions only the last comes back. No
    frame comes or goes by an undo, and no key changes.
 
-   Sizes. A frame has a size in bytes, a uint32_t given with it, and a run's header the total of its frames' sizes. `insert`
-   adds to the total, `union` adds both, `undo` parts them again, removals and drains subtract, and both compressions carry
-   sizes and totals along; setting a payload leaves the size. A total stays below 281,474,976,710,656 (65,536 frames of
-   4,294,967,295 bytes have less), so nothing overflows and no call is refused for it. `get_size` and `get_total` read them.
-   Neither places nor records hold sizes: who needs a frame's size reads it before the frame goes.
+   Copies. `clone_from` copies a study to other tables, say to those of a review station: every frame and every header to
+   the slot that it has, so that each key that is live in the source is live in the copy, and no other, and means the same
+   frame there: every read with such keys answers alike on both. The copy has nothing to undo. The source is only read, and
+   keeps its own undo. The target's head gives its capacities, which may differ from the source's; whatever else stood in the
+   target's head and tables goes, sound or not. From then on the two are apart: what is done in one does not show in the
+   other, and a key that one of them gives may be live in the other too and mean another frame there. So mark whose key it is.
 
-   Refusals. Each entry returns 0 when it accepted, else the number of the refusal. A refused call changes nothing:
-   head, tables, buffers and `out` stay as they were. The tests come in the order 1, 2, 10, 3, 4, 12, 6, 5, 7, and each
-   entry below lists those that it can give. Every entry that takes tables, but `fresh`, can give 1 and 2. Refusal 3 says why the key is dead:
-   the entry returns 3 + 256 * cause, so compare DOORSEDGE_NUMBER(result) with DOORSEDGE_DEAD, never the result itself. Every
-   other result is the number alone.
+   Sizes. A frame has a size in bytes, a uint32_t given with it, and a run's header the total of its frames' sizes.
+   `insert` adds to the total, `union` adds both, `undo` parts them again, removals and drains subtract, and both
+   compressions and copies carry sizes and totals along; setting a payload leaves the size. A total stays below
+   281,474,976,710,656 (65,536 frames of 4,294,967,295 bytes have less), so nothing overflows and no call is refused for
+   it. `get_size` and `get_total` read them. Neither places nor records hold sizes: who needs a frame's size reads it
+   before the frame goes.
+
+   Refusals. Each entry returns 0 when it accepted, else the number of the refusal. A refused call changes nothing: head,
+   tables, buffers and `out` stay as they were. The tests come in the order 1, 2, 10, 3, 4, 12, 6, 5, 7, and each entry
+   below lists those that it can give; `clone_from` alone tests 5 before 6. Every entry that takes tables, but `fresh`, can
+   give 1 and 2; of the two studies of `clone_from`, 2 is said of the source alone. Refusal 3 says why the key is dead: the entry returns
+   3 + 256 * cause, so compare DOORSEDGE_NUMBER(result) with DOORSEDGE_DEAD, never the result itself. Every other result
+   is the number alone.
 
    Keys. A key is two numbers, slot and generation. It is live while its frame is in the tables, and dead (refusal 3)
    from its frame's removal on. Where only these calls write the tables, a dead key can come alive again, meaning
@@ -50,28 +59,31 @@
      - an answer said overflow: the generation went from 4,294,967,295 to 1, and rises again through old numbers. A
        removal raises it by one, so with a thousand a second that comes after 49 days;
      - drain_all overflowed in its closing clear, which no answer says: the head's generation is then 1;
-     - `fresh`, or a compression with `reset`: the generation is 1 again.
+     - `fresh`, or a compression with `reset`: the generation is 1 again;
+     - `clone_from` to these tables, for each key that they gave or held before it: the generation is the source's then.
+   A key that came with a copy is, in the copy, a key that was given when the source gave it: what the source's calls did up
+   to the copy, and the copy's calls from there on, is what counts for it.
    Why a key is dead. One of three causes, tested in this order: 1 its slot is 0 or past the extent, 2 its slot is free,
-   3 its slot holds a frame of another generation. Of several keys it is the cause of the first dead one, in the order of the
-   arguments. Where only these calls write the tables, a key that was given since the last `fresh`, `clear`, `drain_all` or
-   compression
+   3 its slot holds a frame of another generation. Of several keys it is the cause of the first dead one, in the order of
+   the arguments. Where only these calls write the tables, a key that was given since the last `fresh`, `clear`,
+   `drain_all`, compression or copy to these tables, or that was live in that copy,
      - never has cause 1;
      - has cause 2 where its frame is gone and its slot is free;
      - has cause 3 where its frame is gone and another came into its slot.
    So cause 1 is that of a key from before, of other tables, or damaged on its way. But such keys can have any of the three.
    `lookup` asks for nothing but this.
 
-   After `fresh`, `clear`, `drain_all` and a compression forget all keys from before; `compress_with` tells each frame's new
-   one. What to do on overflow: before the next frame is put in, compress, and forget all keys from before. Or, where keys
-   have to stay, forget those of frames that are gone (a read gives 3 for each), and each of the others as soon as its frame
-   goes: they are good until then.
+   After `fresh`, `clear`, `drain_all` and a compression forget all keys from before, and after a copy those of the
+   target's old study; `compress_with` tells each frame's new one. What to do on overflow: before the next frame is put
+   in, compress, and forget all keys from before. Or, where keys have to stay, forget those of frames that are gone (a
+   read gives 3 for each), and each of the others as soon as its frame goes: they are good until then.
 
    What a call costs. Anything may stand in the tables, so every call but `fresh` reads both of them whole, up to their
-   capacities, before it does its own work; `fresh` writes them whole. That is 4 to 7 ns a slot on the machine of
-   docs/SPEED.md, and up to 30 where one ring lies scattered over 65,536 slots: choose capacities that a study needs. Where
-   the head keeps a union, the smaller of its two runs is walked once more. A call takes at most DOORSEDGE_STACK bytes of
-   stack (tests/stack-use.sh adds them up), uses no other memory than what is lent, and asks for one symbol from outside,
-   memset.
+   capacities, before it does its own work; `fresh` writes them whole, and `clone_from` reads the source's and writes the
+   target's. That is 4 to 7 ns a slot on the machine of docs/SPEED.md, and up to 30 where one ring lies scattered over
+   65,536 slots: choose capacities that a study needs. Where the head keeps a union, the smaller of its two runs is
+   walked once more. A call takes at most DOORSEDGE_STACK bytes of stack (tests/stack-use.sh adds them up), uses no other
+   memory than what is lent, and asks for one symbol from outside, memset.
 
    Planning unions. Each `union` answers how many frames changed their run: that many class entries it rewrote. From `fresh`
    on, as long as frames are only put in and runs joined (reads, sets, seals and refused calls may come between), these
@@ -120,8 +132,8 @@ enum doorsedge_refusal {
     DOORSEDGE_UNSOUND = 2,    /* the shape fits, but head and tables are not a sound state (Sound 1 to 15, above) */
     DOORSEDGE_DEAD = 3,       /* a key handed in is not live; the result says why, see doorsedge_cause */
     DOORSEDGE_SAME_CLASS = 4, /* two keys that must be of different runs are of one */
-    DOORSEDGE_NO_ELEMENT = 5, /* no element slot up to the capacity is free */
-    DOORSEDGE_NO_SHARED = 6,  /* no shared slot up to the capacity is free */
+    DOORSEDGE_NO_ELEMENT = 5, /* no element slot up to the capacity is free; of a copy: its last frame's slot is past it */
+    DOORSEDGE_NO_SHARED = 6,  /* no shared slot up to the capacity is free; of a copy: its last header's slot is past it */
     DOORSEDGE_SHORT = 7,      /* a buffer has fewer places than needed */
     DOORSEDGE_NOTHING = 10,   /* there is no union to take back */
     DOORSEDGE_SEALED = 12,    /* the run is sealed: no frame may come into it, nor may it be sealed again */
@@ -162,8 +174,8 @@ enum doorsedge_cause {
 #define DOORSEDGE_PAIRS_LEN(frames) ((size_t)(frames) * DOORSEDGE_PAIR)
 #define DOORSEDGE_SCRATCH_LEN(capacity) ((size_t)(capacity) * DOORSEDGE_FRAME)
 
-/* The head's numbers. The extent is the highest slot ever used since fresh, clear or compression. The last four are of the
-   union that `undo` takes back, and all 0 where there is none. */
+/* The head's numbers. The extent is the highest slot ever used since fresh, clear, compression or copy; a copy's own slots
+   count as used. The last four are of the union that `undo` takes back, and all 0 where there is none. */
 enum doorsedge_head {
     DOORSEDGE_ELEMS_CAPACITY = 0,
     DOORSEDGE_ELEMS_EXTENT = 1,
@@ -418,6 +430,18 @@ uint64_t doorsedge_compress_with(uint64_t head[DOORSEDGE_HEAD], uint64_t *elems,
    out: n times the place of its highest one bit, places counted from 0.
    Refusals: 13 (n is zero, or above DOORSEDGE_MOST_SLOTS). */
 uint64_t doorsedge_union_ceiling(uint64_t n, uint64_t out[1]);
+
+/* ---- Two studies: the target first, then the source, which is only read. Nothing of the one overlaps the other. */
+
+/* Copies a study; see Copies, above. Head and tables of the target become the source's live frames and headers in their own
+   slots, with rings, payloads, sizes, shared values, counts, totals and marks, and with its generation. The extents are the
+   last live slots, 0 where there is none; the free slots below are chained lowest first; every slot past is zero; and there
+   is nothing to undo. Of the target only the two capacities are read and kept, and any numbers may stand in it. What must
+   fit is the source's last live slots, not its live numbers; a compression of the source moves them down.
+   Refusals: 1 (of the source, then of the target), 2 (of the source), 5, 6. */
+uint64_t doorsedge_clone_from(uint64_t head[DOORSEDGE_HEAD], uint64_t *elems, size_t elems_len, uint64_t *shared,
+                              size_t shared_len, const uint64_t from_head[DOORSEDGE_HEAD], const uint64_t *from_elems,
+                              size_t from_elems_len, const uint64_t *from_shared, size_t from_shared_len);
 
 /* ---- The head lent in place: a writer lends its own struct, which lies as the DOORSEDGE_HEAD numbers do, and calls
    these two as `insert` and `remove_element` are called. The same struct may be handed to the other entries, as its

@@ -358,6 +358,23 @@ static void in_place(void) {
     IS(own.shared.live, 2);
 }
 
+/* A copy of a study in other tables, which held anything; and one that does not fit. More of it is in clone.c. */
+static void copy(void) {
+    uint64_t own[DOORSEDGE_HEAD], own_elems[ELEMS], own_shared[SHARED];
+    two_runs();
+    fill(own, DOORSEDGE_HEAD);
+    fill(own_elems, ELEMS);
+    fill(own_shared, SHARED);
+    own[DOORSEDGE_ELEMS_CAPACITY] = FRAMES;
+    own[DOORSEDGE_SHARED_CAPACITY] = RUNS;
+    IS(doorsedge_clone_from(own, own_elems, ELEMS, own_shared, SHARED, STATE), DOORSEDGE_OK);
+    holds(__LINE__, "own", own, head, DOORSEDGE_HEAD);
+    holds(__LINE__, "own_elems", own_elems, elems, ELEMS);
+    holds(__LINE__, "own_shared", own_shared, shared, SHARED);
+    own[DOORSEDGE_SHARED_CAPACITY] = 1;
+    IS(doorsedge_clone_from(own, own_elems, ELEMS, own_shared, DOORSEDGE_SHARED_LEN(1), STATE), DOORSEDGE_NO_SHARED);
+}
+
 /* NULL with length 0: an empty buffer where none is needed, one too short where it is, and tables of no shape. */
 static void null_with_none(void) {
     two_runs();
@@ -473,6 +490,7 @@ int main(void) {
     compress_in_order();
     both_compressions();
     in_place();
+    copy();
     null_with_none();
     old_keys();
     key_over_overflow();

@@ -55,9 +55,9 @@ pub enum Refusal {
     Dead(Cause),
     /// Two keys that must be of different runs are of one.
     SameClass,
-    /// No element slot up to the capacity is free.
+    /// No element slot up to the capacity is free; or the last frame's slot of what is [copied](crate::Arena::clone_from) is past it.
     NoElement,
-    /// No shared slot up to the capacity is free.
+    /// No shared slot up to the capacity is free; or the last header's slot of what is [copied](crate::Arena::clone_from) is past it.
     NoShared,
     /// A buffer has fewer places than needed.
     Short,
@@ -121,8 +121,8 @@ impl fmt::Display for Refusal {
             Refusal::Shape => "a capacity is outside its range, or a table's length does not fit it",
             Refusal::Unsound => "the state is not sound",
             Refusal::SameClass => "two keys are of one run",
-            Refusal::NoElement => "no element slot up to the capacity is free",
-            Refusal::NoShared => "no shared slot up to the capacity is free",
+            Refusal::NoElement => "no element slot up to the capacity is free, or those to be copied lie past it",
+            Refusal::NoShared => "no shared slot up to the capacity is free, or those to be copied lie past it",
             Refusal::Short => "a buffer has fewer places than needed",
             Refusal::Nothing => "there is no union to take back",
             Refusal::Sealed => "the run is sealed, no frame may come into it",

@@ -9,7 +9,7 @@ use crate::{HEAD, PAIR, PLACE, RECORD, SEAL_PLACE, elems_len, shared_len};
 /// Frames in runs. See the [crate's page](crate) for an example.
 #[derive(Clone, PartialEq, Eq, Debug)]
 pub struct Arena<T: Tables = Owned> {
-    tables: T,
+    pub(crate) tables: T,
 }
 
 /// Calls an entry: head and tables as pointers and lengths, then its own arguments.

@@ -3,7 +3,8 @@
 //! An [Arena] holds frames, each with a payload and a size in bytes. Frames stand in rings, called runs, and each run has one
 //! shared value and the total of its frames' sizes.
 //! Runs are begun, grown, joined and taken apart, and the last union can be [undone](Arena::undo); a [Key] stays valid until
-//! its frame is removed or the arena is compressed. Every call tests the tables, and what it cannot do it refuses with a
+//! its frame is removed or the arena is compressed. A study can be [copied](Arena::clone_from) to another arena, where its keys
+//! are valid too. Every call tests the tables, and what it cannot do it refuses with a
 //! [Refusal], changing nothing.
 //!
 //! ```
@@ -76,6 +77,7 @@
 
 mod answers;
 mod arena;
+mod copies;
 mod figures;
 pub mod sys;
 mod tables;

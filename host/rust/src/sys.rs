@@ -349,6 +349,19 @@ unsafe extern "C" {
 
     pub fn doorsedge_union_ceiling(n: u64, out: *mut [u64; 1]) -> u64;
 
+    pub fn doorsedge_clone_from(
+        head: *mut Head,
+        elems: *mut u64,
+        elems_len: usize,
+        shared: *mut u64,
+        shared_len: usize,
+        from_head: *const Head,
+        from_elems: *const u64,
+        from_elems_len: usize,
+        from_shared: *const u64,
+        from_shared_len: usize,
+    ) -> u64;
+
     pub fn doorsedge_insert_in_place(
         head: *mut LentHead,
         elems: *mut u64,

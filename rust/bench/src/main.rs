@@ -1,8 +1,9 @@
 //! `bench`: each call of the archive beside the plain Rust rows arena and the oracle. `bench door`: the soundness check and
 //! what a host call adds to it. `bench clear`: clear by extent. `bench compress`: compression as tables grow. `bench compress_with`:
-//! compression in slot order as tables grow. `bench count`: instructions. All times of a line are from the same rounds, but for the
+//! compression in slot order as tables grow. `bench clone`: copies. `bench count`: instructions. All times of a line are from the same rounds, but for the
 //! oracle's compression in slot order; ratios are what to read.
 
+mod copies;
 mod count;
 mod measure;
 mod sides;
@@ -200,15 +201,17 @@ fn main() {
             clear();
             compress_canonical();
             compress_with();
+            copies::table();
             count::table();
         }
         Some("door") => door(),
         Some("clear") => clear(),
         Some("compress") => compress_canonical(),
         Some("compress_with") => compress_with(),
+        Some("clone") => copies::table(),
         Some("count") => count::table(),
         Some(_) => {
-            eprintln!("usage: bench [door|clear|compress|compress_with|count]");
+            eprintln!("usage: bench [door|clear|compress|compress_with|clone|count]");
             std::process::exit(2);
         }
     }

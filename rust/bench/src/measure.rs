@@ -180,7 +180,7 @@ pub fn ordered_compressions(n: usize) -> Vec<Batch> {
     ]
 }
 
-fn shuffled_ring(n: usize) -> Bed {
+pub fn shuffled_ring(n: usize) -> Bed {
     let mut seed = 88_172_645_463_325_252;
     Bed::one_ring(n, |most| {
         next(&mut seed);

@@ -37,9 +37,13 @@ pub enum Call {
     Lookup(Name),
     GetSize(Name),
     GetTotal(Name),
+    /// To the other recorder's tables.
+    CloneFrom,
+    /// The calls after it are made on the other recorder's tables.
+    Change,
 }
 
-pub const KINDS: [&str; 25] = [
+pub const KINDS: [&str; 27] = [
     "fresh",
     "check",
     "len_surject",
@@ -65,6 +69,8 @@ pub const KINDS: [&str; 25] = [
     "get_size",
     "get_total",
     "undo",
+    "clone_from",
+    "(other tables)",
 ];
 
 impl Call {
@@ -96,6 +102,8 @@ impl Call {
             Call::GetSize(_) => 22,
             Call::GetTotal(_) => 23,
             Call::Undo => 24,
+            Call::CloneFrom => 25,
+            Call::Change => 26,
         }
     }
 
@@ -119,14 +127,15 @@ impl Call {
             Call::InSameSurject(j, k) | Call::Union(j, k) => vec![j, k],
             Call::Exchange(keys, _) => keys.to_vec(),
             Call::Fresh | Call::Check | Call::InsertSurject(..) | Call::DrainAll | Call::Clear => vec![],
-            Call::Compress(_) | Call::CompressWith(_) | Call::Undo => vec![],
+            Call::Compress(_) | Call::CompressWith(_) | Call::Undo | Call::CloneFrom | Call::Change => vec![],
         }
     }
 
-    /// Whether a union before it can still be undone after it, accepted or not.
+    /// Whether a union before it can still be undone after it, accepted or not. A copy is a read of its source.
     pub fn keeps_undo(&self) -> bool {
         use Call::*;
-        let reads = matches!(self, Check | List(_) | Lookup(_) | LenSurject(_) | InSameSurject(..));
+        let reads =
+            matches!(self, CloneFrom | Change | Check | List(_) | Lookup(_) | LenSurject(_) | InSameSurject(..));
         reads || matches!(self, Get(_) | GetShared(_) | GetSize(_) | GetTotal(_))
     }
 }
@@ -144,6 +153,7 @@ impl fmt::Display for Call {
         let kind = KINDS[self.kind()];
         match *self {
             Call::Fresh | Call::Check | Call::Undo | Call::DrainAll | Call::Clear => write!(f, "{kind}"),
+            Call::CloneFrom | Call::Change => write!(f, "{kind}"),
             Call::LenSurject(k)
             | Call::Get(k)
             | Call::GetShared(k)
@@ -178,6 +188,8 @@ impl fmt::Display for Call {
 pub struct Case {
     pub elems: usize,
     pub shared: usize,
+    /// The other recorder's.
+    pub others: [usize; 2],
     pub calls: Vec<Call>,
     /// All frames are compared after every so many calls, and after the last.
     pub stride: usize,
@@ -185,7 +197,11 @@ pub struct Case {
 
 impl fmt::Display for Case {
     fn fmt(&self, f: &mut fmt::Formatter<'_>) -> fmt::Result {
-        write!(f, "capacities {} {}", self.elems, self.shared)?;
+        write!(
+            f,
+            "capacities {} {}, the other tables' {} {}",
+            self.elems, self.shared, self.others[0], self.others[1]
+        )?;
         self.calls.iter().try_for_each(|call| write!(f, "\n{call}"))
     }
 }

@@ -39,8 +39,9 @@ fn bytes(name: Name) -> u32 {
     }
 }
 
-/// Every call that can come next after these, at every live frame. Reads, and calls at dead keys, are made by the comparison.
-pub fn next_calls(live: &[Name], made: usize) -> Vec<Call> {
+/// Every call that can come next after these, at every live frame. Reads, and calls at dead keys, are made by the comparison. To the
+/// other recorder's tables the calls go only when frames are there.
+pub fn next_calls(live: &[Name], made: usize, is_other_empty: bool) -> Vec<Call> {
     let (payload, value) = (number(2 * made), number(2 * made + 1));
     let mut calls = vec![
         Call::InsertSurject(made, payload, value, bytes(made)),
@@ -65,6 +66,12 @@ pub fn next_calls(live: &[Name], made: usize) -> Vec<Call> {
         ]);
         calls.extend(live.iter().map(|&j| Call::Union(j, k)));
     }
+    if !is_other_empty || !live.is_empty() {
+        calls.push(Call::CloneFrom);
+    }
+    if !is_other_empty {
+        calls.push(Call::Change);
+    }
     if let [a, b, c, .., d] = *live {
         let values = [payload, value, payload + 7, value + 7];
         calls.extend([Call::Exchange([d, b, c, a], values), Call::Exchange([a, b, a, d], values)]);
@@ -79,13 +86,13 @@ pub fn every(
     length: usize,
     seen: &mut dyn FnMut(&Tally),
 ) -> Result<(), (Case, Difference)> {
-    let mut live = vec![];
+    let (mut live, mut is_other_empty) = (vec![], true);
     let mut calls = case.calls.clone().into_iter();
     let mut made = Case { calls: vec![], ..case.clone() };
     let said = way.drive(&mut made, |pair| {
         let next = calls.next();
         if next.is_none() {
-            live = pair.live().collect();
+            (live, is_other_empty) = (pair.live().collect(), pair.is_other_empty());
         }
         next
     });
@@ -93,7 +100,7 @@ pub fn every(
     if case.calls.len() == length {
         return Ok(());
     }
-    for call in next_calls(&live, case.calls.len()) {
+    for call in next_calls(&live, case.calls.len(), is_other_empty) {
         case.calls.push(call);
         every(way, case, length, seen)?;
         case.calls.pop();
@@ -107,8 +114,8 @@ struct Mix([usize; KINDS.len()]);
 impl Mix {
     fn any(r: &mut Random) -> Mix {
         // fresh to get_shared; set, set_shared, exchange; new run, insert, union; removals; list, drains, clear, compress; seal;
-        // compress_with; lookup; get_size, get_total; undo
-        let usual = [1, 3, 3, 3, 3, 3, 4, 4, 6, 14, 20, 12, 10, 3, 4, 2, 1, 1, 3, 2, 3, 3, 3, 3, 4];
+        // compress_with; lookup; get_size, get_total; undo; clone_from, and to the other tables
+        let usual = [1, 3, 3, 3, 3, 3, 4, 4, 6, 14, 20, 12, 10, 3, 4, 2, 1, 1, 3, 2, 3, 3, 3, 3, 4, 3, 4];
         Mix(usual.map(|n| n * r.of(&[0, 1, 1, 1, 2, 6])))
     }
 
@@ -123,9 +130,14 @@ impl Mix {
 pub fn random(way: &Way, r: &mut Random) -> Result<Tally, (Case, Difference)> {
     let elems = 3 + r.of(&[0, 1, 2, 5, 5, 9, 40]);
     let shared = 1 + r.below(elems);
+    let others = [elems, shared].map(|capacity| match r.below(4) {
+        0 => 1 + r.below(capacity),
+        1 => capacity + r.below(4),
+        _ => capacity,
+    });
     let length = 1 + r.of(&[5, 20, 60, 120, 240]) - r.below(5);
     let mix = Mix::any(r);
-    let mut case = Case { elems, shared, calls: Vec::with_capacity(length), stride: 1 };
+    let mut case = Case { elems, shared, others, calls: Vec::with_capacity(length), stride: 1 };
     let mut made = 0;
     let said = way.drive(&mut case, |pair| {
         if made == length {
@@ -185,7 +197,9 @@ fn any_call(pair: &Pair, kind: usize, serial: usize, r: &mut Random) -> Call {
         21 => Call::Lookup(k),
         22 => Call::GetSize(k),
         23 => Call::GetTotal(k),
-        _ => Call::Undo,
+        24 => Call::Undo,
+        25 => Call::CloneFrom,
+        _ => Call::Change,
     }
 }
 
@@ -384,6 +398,44 @@ fn in_order(n: usize, r: &mut Random) -> Vec<Call> {
     calls
 }
 
+/// Runs with holes on both sides, some of them sealed, copied to the other tables again and again; frames then come into the holes of
+/// the copy, or of the source, whose order in the slots a compression shows.
+fn copied(n: usize, r: &mut Random) -> Vec<Call> {
+    let mut calls = vec![];
+    let (mut live, mut serial): (Vec<Name>, usize) = (vec![], 0);
+    for round in 0..8 {
+        while live.len() < n {
+            let payload = number(2 * serial);
+            if live.is_empty() || r.below(4) == 0 {
+                calls.push(Call::InsertSurject(serial, payload, payload + 1, bytes(serial)));
+            } else {
+                calls.push(Call::Insert(r.of(&live), serial, payload, bytes(serial)));
+            }
+            live.push(serial);
+            serial += 1;
+        }
+        calls.extend((0..n / 16).map(|_| Call::Union(r.of(&live), r.of(&live))));
+        calls.extend((0..n / 64).map(|_| Call::Seal(r.of(&live))));
+        for _ in 0..n / 3 {
+            calls.push(Call::RemoveElement(live.swap_remove(r.below(live.len()))));
+        }
+        calls.extend([Call::RemoveShared(r.of(&live)), Call::Union(r.of(&live), r.of(&live)), Call::CloneFrom]);
+        // the source's undo is there after the copy, and the copy has none
+        calls.extend([Call::Change, Call::Undo, Call::Change, Call::Undo]);
+        if round % 3 != 2 {
+            calls.push(Call::Change);
+        }
+        for _ in 0..n / 4 {
+            calls.push(Call::Insert(r.of(&live), serial, number(2 * serial), bytes(serial)));
+            live.push(serial);
+            serial += 1;
+        }
+        calls.push(if round % 2 == 0 { Call::CompressWith(false) } else { Call::List(r.of(&live)) });
+    }
+    calls.extend([Call::CloneFrom, Call::DrainAll, Call::Change, Call::DrainAll, Call::CloneFrom]);
+    calls
+}
+
 /// The adversarial cases, with their names.
 pub fn adversarial(seed: u64, largest: usize) -> Vec<(&'static str, Case)> {
     let r = &mut Random::new(seed ^ 0xAD5E);
@@ -392,7 +444,10 @@ pub fn adversarial(seed: u64, largest: usize) -> Vec<(&'static str, Case)> {
     while size <= largest {
         // a comparison takes as long as there are frames
         let stride = (size / 256).max(1);
-        let mut add = |name, calls| cases.push((name, Case { elems: size, shared: size, calls, stride }));
+        let mut add = |name, calls| {
+            let others = [size, size];
+            cases.push((name, Case { elems: size, shared: size, others, calls, stride }))
+        };
         add("balanced unions", balanced(size, r));
         add("balanced unions", balanced(size - size / 5, r));
         add("unions taken back", taken_back(size, r));
@@ -401,6 +456,7 @@ pub fn adversarial(seed: u64, largest: usize) -> Vec<(&'static str, Case)> {
         add("displaced headers", displaced(size * 3 / 4, r));
         add("sealed runs", sealed(size, r));
         add("in slot order", in_order(size, r));
+        add("copies", copied(size, r));
         size *= 4;
     }
     cases

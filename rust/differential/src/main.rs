@@ -8,6 +8,7 @@
 mod calls;
 mod causes;
 mod compare;
+mod copies;
 mod generate;
 mod joins;
 mod ordered;
@@ -32,7 +33,7 @@ struct Args {
     fault: Fault,
 }
 
-const USAGE: &str = "usage: differential [CASES] [SEED] [--length N] [--fault equal|run|map|further|seal|ring|pairs|headers|cause|size|sizes|undo|kept]";
+const USAGE: &str = "usage: differential [CASES] [SEED] [--length N] [--fault equal|run|map|further|seal|ring|pairs|headers|cause|size|sizes|undo|kept|clone]";
 
 fn args() -> Option<Args> {
     let mut args = Args { cases: 20_000, seed: 1, length: 5, fault: Fault::None };
@@ -55,6 +56,7 @@ fn args() -> Option<Args> {
                     "sizes" => Fault::SizesCrossed,
                     "undo" => Fault::UndoneValue,
                     "kept" => Fault::SetKeepsUndo,
+                    "clone" => Fault::ChainReversed,
                     _ => return None,
                 }
             }
@@ -109,12 +111,12 @@ fn measured_side() -> bool {
     let calls =
         vec![Call::InsertSurject(0, 1, 2, 0), Call::Insert(0, 1, 3, 0), Call::Insert(0, 2, 4, 0), Call::List(0)];
     let way = Way { ordered: true, fault: Fault::None };
-    way.run(&Case { elems: 3, shared: 1, calls, stride: 4 }).is_ok()
+    way.run(&Case { elems: 3, shared: 1, others: [1, 1], calls, stride: 4 }).is_ok()
 }
 
 fn all(args: &Args, way: &Way, progress: &mut Progress) -> Result<(), (Case, Difference)> {
-    for (elems, shared) in [(3, 3), (5, 4)] {
-        let mut case = Case { elems, shared, calls: vec![], stride: usize::MAX };
+    for (elems, shared, others) in [(3, 3, [2, 1]), (5, 4, [5, 4])] {
+        let mut case = Case { elems, shared, others, calls: vec![], stride: usize::MAX };
         generate::every(way, &mut case, args.length, &mut |tally| progress.add("all short sequences", tally))?;
     }
     for (name, case) in generate::adversarial(args.seed, 4_096) {
@@ -135,7 +137,9 @@ fn summary(args: &Args, way: &Way, progress: &Progress) {
     let against = if cfg!(feature = "mock") { "the MOCK, not the proved archive" } else { "the archive" };
     println!("Differential run: the Rust (three files over a stand-in) against {against}");
     print!("{:<20}", "call");
-    ["accepted", "refused 3", "refused 4", "refused 12", "refused 10"].iter().for_each(|column| print!("{column:>12}"));
+    ["accepted", "refused 3", "refused 4", "refused 12", "refused 10", "refused 5", "refused 6"]
+        .iter()
+        .for_each(|column| print!("{column:>12}"));
     println!();
     for (name, counts) in KINDS.iter().zip(tally.calls) {
         print!("{name:<20}");

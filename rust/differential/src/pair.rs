@@ -53,14 +53,16 @@ pub enum Fault {
     UndoneValue,
     /// A set leaves the union before it to be undone.
     SetKeepsUndo,
+    /// A copy has its free slots chained highest first.
+    ChainReversed,
 }
 
 /// What was met.
 #[derive(Clone, Copy, Default, Debug)]
 pub struct Tally {
     pub sequences: u64,
-    /// By kind: accepted, dead, same class, sealed, nothing to undo.
-    pub calls: [[u64; 5]; KINDS.len()],
+    /// By kind: accepted, dead, same class, sealed, nothing to undo, no element slot, no shared slot.
+    pub calls: [[u64; 7]; KINDS.len()],
     /// The dead ones by their cause.
     pub causes: [u64; 3],
     pub longest_ring: u64,
@@ -75,8 +77,8 @@ pub struct Pair {
     /// By name; a frame that was removed stays, its keys are then dead on both sides.
     pub frames: Vec<Option<Frame>>,
     /// The name that was last given to a slot of the archive, and to one of the oracle.
-    by_key: Vec<Name>,
-    by_ptr: Vec<Name>,
+    pub by_key: Vec<Name>,
+    pub by_ptr: Vec<Name>,
     /// The highest slot that the archive gave since the tables were last made, emptied or compressed.
     pub extent: u64,
     /// The frames that accepted seals wrote: no frame comes into their runs, so those that live are the sealed runs' frames.
@@ -89,6 +91,8 @@ pub struct Pair {
     pub before: Option<Before>,
     /// What the oracle said of the last union: the removed value, the frame kept, the frames that changed their run.
     pub joined: (u64, Name, u64),
+    /// Another recorder's tables, on both sides, with names of their own.
+    pub other: Option<Box<Pair>>,
 }
 
 /// Whether the archive has the entry: one that lacks some is compared in the others.
@@ -103,9 +107,14 @@ pub fn same<T: PartialEq + std::fmt::Debug>(what: &str, port: T, oracle: T) -> R
 
 impl Pair {
     pub fn new(case: &Case, ordered: bool, fault: Fault) -> Pair {
-        let port = Arena::fresh(case.elems, case.shared).expect("capacities of a case are in range");
-        let oracle = Oracle::with_min_capacity_separated(case.elems, case.shared).unwrap();
-        let (by_key, by_ptr) = (vec![NEVER; case.elems + 1], vec![NEVER; case.elems + 1]);
+        let other = Box::new(Pair::of(case.others, ordered, fault));
+        Pair { other: Some(other), ..Pair::of([case.elems, case.shared], ordered, fault) }
+    }
+
+    fn of([elems, shared]: [usize; 2], ordered: bool, fault: Fault) -> Pair {
+        let port = Arena::fresh(elems, shared).expect("capacities of a case are in range");
+        let oracle = Oracle::with_min_capacity_separated(elems, shared).unwrap();
+        let (by_key, by_ptr) = (vec![NEVER; elems + 1], vec![NEVER; elems + 1]);
         Pair {
             port,
             oracle,
@@ -119,6 +128,7 @@ impl Pair {
             tally: Tally::default(),
             before: None,
             joined: (0, NEVER, 0),
+            other: None,
         }
     }
 
@@ -199,8 +209,15 @@ impl Pair {
             Call::InsertSurject(..) => elems || self.oracle.len_shared() == self.oracle.capacity_shared(),
             // 12 is said before 5
             Call::Insert(at, ..) => elems && !self.is_sealed(*at),
+            // where insert's side differs, so may the last live slots
+            Call::CloneFrom => !self.ordered && self.other.as_ref().is_none_or(|other| !other.has_room_for(self)),
             _ => false,
         }
+    }
+
+    fn has_room_for(&self, source: &Pair) -> bool {
+        let room = |pair: &Pair| (pair.oracle.capacity(), pair.oracle.capacity_shared());
+        room(self).0 >= room(source).0 && room(self).1 >= room(source).1
     }
 
     /// Makes the call on both sides and compares the answers.
@@ -218,6 +235,11 @@ impl Pair {
             Call::CompressWith(reset) => self.compress_with(reset)?,
             Call::GetSize(k) => self.get_size(k)?,
             Call::GetTotal(k) => self.get_total(k)?,
+            Call::CloneFrom => self.copy()?,
+            Call::Change => {
+                self.change_tables();
+                None
+            }
             _ => self.read_or_set(call)?,
         };
         let column = match refusal {
@@ -229,6 +251,9 @@ impl Pair {
             Some(Refusal::SameClass) => 2,
             Some(Refusal::Sealed) => 3,
             Some(Refusal::Nothing) => 4,
+            // no other call is made without room
+            Some(Refusal::NoElement) if *call == Call::CloneFrom => 5,
+            Some(Refusal::NoShared) if *call == Call::CloneFrom => 6,
             Some(other) => return Err(format!("the archive says {other}")),
         };
         if refusal.is_none() && !matches!(call, Call::Union(..)) && !call.keeps_undo() {

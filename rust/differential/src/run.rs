@@ -80,6 +80,14 @@ impl Way {
             }
             while best.elems > 1 && keep(Case { elems: best.elems - 1, ..best.clone() }, &mut best) {}
             while best.shared > 1 && keep(Case { shared: best.shared - 1, ..best.clone() }, &mut best) {}
+            for at in [0, 1] {
+                let less = |case: &Case| {
+                    let mut others = case.others;
+                    others[at] -= 1;
+                    Case { others, ..case.clone() }
+                };
+                while best.others[at] > 1 && keep(less(&best), &mut best) {}
+            }
             if best == before {
                 let best = renamed(&best);
                 let difference = self.run(&best).err().unwrap_or(difference);
@@ -118,7 +126,7 @@ fn renamed(case: &Case) -> Case {
         Call::GetSize(k) => Call::GetSize(name(k)),
         Call::GetTotal(k) => Call::GetTotal(name(k)),
         Call::Fresh | Call::Check | Call::Undo | Call::DrainAll | Call::Clear => *call,
-        Call::Compress(_) | Call::CompressWith(_) => *call,
+        Call::Compress(_) | Call::CompressWith(_) | Call::CloneFrom | Call::Change => *call,
     });
     Case { calls: calls.collect(), ..case.clone() }
 }

@@ -23,8 +23,8 @@
 //! | 18 compress_canonical | | 1 for a reset, else 0 | |
 //!
 //! A frame's payload is its name whenever tables are compressed, so that keys can be learned again from payloads. Seals,
-//! compressions in slot order, lookups, reads of sizes and totals and undos are not in a sample, and causes neither: the program
-//! that replays it knows none. Every frame's size is 0, and stands in no record.
+//! compressions in slot order, lookups, reads of sizes and totals, undos and copies are not in a sample, and causes neither: the
+//! program that replays it knows none. Every frame's size is 0, and stands in no record.
 
 use crate::calls::{Call, Case, NEVER, Name};
 use crate::generate::{Random, apart};
@@ -41,7 +41,7 @@ pub fn sample(sequences: u64, seed: u64, ordered: bool) -> Result<Vec<u8>, Strin
     let r = &mut Random::new(seed);
     let mut bytes = vec![];
     for _ in 0..sequences {
-        let case = Case { elems: SLOTS, shared: SLOTS, calls: vec![], stride: 1 };
+        let case = Case { elems: SLOTS, shared: SLOTS, others: [1, 1], calls: vec![], stride: 1 };
         let mut pair = Pair::new(&case, ordered, Fault::None);
         let mut names = 0;
         push(&mut bytes, &Call::Fresh, 0, &[]);
@@ -170,9 +170,10 @@ fn push(bytes: &mut Vec<u8>, call: &Call, refusal: u64, answers: &[u64]) {
         Call::RemoveElement(k) | Call::RemoveShared(k) | Call::List(k) | Call::Drain(k) => (&[*k], &[]),
         Call::Compress(reset) => (&[], &[*reset as u64]),
         Call::Fresh | Call::Check | Call::DrainAll | Call::Clear => (&[], &[]),
-        Call::Seal(_) | Call::CompressWith(_) | Call::Lookup(_) | Call::GetSize(_) | Call::GetTotal(_) | Call::Undo => {
+        Call::Seal(_) | Call::CompressWith(_) | Call::Lookup(_) | Call::GetSize(_) | Call::GetTotal(_) => {
             unreachable!("a sample has no such call")
         }
+        Call::Undo | Call::CloneFrom | Call::Change => unreachable!("a sample has no such call"),
     };
     for (byte, name) in record[1..5].iter_mut().zip(names) {
         *byte = u8::try_from(*name).unwrap_or(255);

@@ -6,12 +6,16 @@
 #![allow(clippy::missing_safety_doc, clippy::too_many_arguments)]
 
 use model::door::{Call, run};
-use model::{HEAD, Key, check};
+use model::{HEAD, Key, Source, check, copy};
 use std::slice::{from_raw_parts, from_raw_parts_mut};
 
 /// A lent table or buffer; null comes with length 0.
 unsafe fn lent<'a>(at: *mut u64, len: usize) -> &'a mut [u64] {
     if at.is_null() { &mut [] } else { unsafe { from_raw_parts_mut(at, len) } }
+}
+
+unsafe fn lent_to_read<'a>(at: *const u64, len: usize) -> &'a [u64] {
+    if at.is_null() { &[] } else { unsafe { from_raw_parts(at, len) } }
 }
 
 /// The model stores only what a call changes, so what the header calls const is not written.
@@ -146,6 +150,30 @@ pub unsafe extern "C" fn doorsedge_union_ceiling(n: u64, out: *mut [u64; 1]) -> 
             0
         }
         Err(refusal) => refusal.result(),
+    }
+}
+
+#[unsafe(no_mangle)]
+pub unsafe extern "C" fn doorsedge_clone_from(
+    head: *mut u64,
+    elems: *mut u64,
+    elems_len: usize,
+    shared: *mut u64,
+    shared_len: usize,
+    from_head: *const u64,
+    from_elems: *const u64,
+    from_elems_len: usize,
+    from_shared: *const u64,
+    from_shared_len: usize,
+) -> u64 {
+    unsafe {
+        let from = Source {
+            head: &*(from_head as *const [u64; HEAD]),
+            elems: lent_to_read(from_elems, from_elems_len),
+            shared: lent_to_read(from_shared, from_shared_len),
+        };
+        let head = &mut *(head as *mut [u64; HEAD]);
+        copy::run(check::sound, head, lent(elems, elems_len), lent(shared, shared_len), from)
     }
 }
 

@@ -8,6 +8,7 @@
 //! - [whole]: the calls on a whole ring or on all of them
 //! - [ordered]: compression in slot order
 //! - [undo]: the last union taken back
+//! - [copy]: a study copied to other tables
 //! - [check]: the soundness check, linear
 //! - [sets]: soundness sentence by sentence, by sets, to test the check with
 //! - [described]: the sentence of soundness about what the head remembers, by taking the union back and making it again
@@ -15,6 +16,7 @@
 //! - [figures]: the ceiling on union work, which takes no tables
 
 pub mod check;
+pub mod copy;
 pub mod described;
 pub mod door;
 pub mod figures;
@@ -25,5 +27,6 @@ pub mod sets;
 pub mod undo;
 pub mod whole;
 
+pub use copy::Source;
 pub use layout::{Cause, FRAME, HEAD, HEADER, Head, Key, Memory, PAIR, PLACE, Pool, RECORD, Refusal, SEAL_PLACE};
 pub use rows::{Joined, Removed, Rows};

@@ -140,6 +140,35 @@ fn a_clone_takes_other_slots_and_a_copy_the_same() {
     );
 }
 
+/// `clone_from_with` keeps pointers and the generation, makes room up to the last slot in use and no more, and chains free slots anew,
+/// lowest first. Of the text is that the elements come first and what is reserved; the chain and the generation are the stand-in's.
+#[test]
+fn a_copy_by_clone_from_with() {
+    let mut a = A::with_min_capacity_separated(9, 9).unwrap();
+    let p: Vec<P0> = (1..=6).map(|n| a.insert_surject(n, 100 * n)).collect();
+    for k in [1, 5, 0] {
+        a.remove_element(p[k]).allow();
+    }
+    let _ = a.union(p[2], p[3]).unwrap();
+    let mut copy = A::with_min_capacity_separated(2, 2).unwrap();
+    let old = copy.insert_surject(77, 77);
+    copy.clone_from_with(&a, |_, t| *t, |_, s| *s).unwrap();
+    sound(&copy);
+    assert_eq!((copy.capacity(), copy.capacity_shared()), (5, 5));
+    let all = |a: &A| a.iter_combined().map(|(p, t, s)| (p, *t, *s)).collect::<Vec<_>>();
+    assert_eq!(all(&copy), all(&a));
+    assert_eq!(slots(&copy, p[3]), slots(&a, p[3]));
+    assert!(copy.get(old).is_none());
+    // the original takes the slot freed last, the copy the lowest
+    let next = |a: &mut A| [7, 8, 9].map(|t| format!("{:?}", a.insert(p[2], t)));
+    assert_eq!(next(&mut a), ["P0[1](5)", "P0[6](5)", "P0[2](5)"]);
+    assert_eq!(next(&mut copy), ["P0[1](5)", "P0[2](5)", "P0[6](5)"]);
+    // there is room enough, and it stays
+    let mut wide = A::with_min_capacity_separated(20, 30).unwrap();
+    wide.clone_from_with(&a, |_, t| *t, |_, s| *s).unwrap();
+    assert_eq!((wide.capacity(), wide.capacity_shared()), (20, 30));
+}
+
 /// The files that are compiled are the published ones, byte for byte: lengths, and sums by FNV-1a.
 #[test]
 fn the_three_files_are_as_published() {

@@ -1,6 +1,7 @@
 //! The archive's C entries, called as the model's door is, and a host that compares the two.
 
 pub mod chains;
+pub mod copies;
 pub mod memories;
 pub mod random;
 

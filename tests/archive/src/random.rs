@@ -63,6 +63,12 @@ pub struct Tally(pub BTreeMap<&'static str, BTreeMap<u64, u64>>);
 pub const GIVEN: [(u64, u64); 11] =
     [(1, 0), (2, 0), (10, 0), (3, 1), (3, 2), (3, 3), (4, 0), (12, 0), (6, 0), (5, 0), (7, 0)];
 
+impl Tally {
+    fn add(&mut self, entry: &'static str, result: u64) {
+        *self.0.entry(entry).or_default().entry(result).or_insert(0) += 1;
+    }
+}
+
 impl fmt::Display for Tally {
     fn fmt(&self, f: &mut fmt::Formatter<'_>) -> fmt::Result {
         write!(f, "{:<19}{:>9}", "entry", "accepted")?;
@@ -83,8 +89,13 @@ impl fmt::Display for Tally {
 pub fn compare(calls: u64, seed: u64) -> Tally {
     let mut r = Random::new(seed);
     let mut tally = Tally::default();
-    let mut grown = Host::fresh(4, 3);
+    let (mut grown, mut review) = (Host::fresh(4, 3), Host::fresh(4, 3));
     for _ in 0..calls {
+        if r.one_in(24) {
+            let result = copied(&mut grown, &mut review, &mut r);
+            tally.add("clone_from", result);
+            continue;
+        }
         let way = r.below(8);
         let mut host = match way {
             0 => noise(&mut r),
@@ -94,7 +105,7 @@ pub fn compare(calls: u64, seed: u64) -> Tally {
         let call = any_call(&host, &mut r);
         let lent = any_buffer(&host, &call, &mut r);
         let said = host.call(call, &lent);
-        tally.0.entry(call.name().0).or_default().entry(said.result()).and_modify(|n| *n += 1).or_insert(1);
+        tally.add(call.name().0, said.result());
         // a changed state that is sound all the same is grown from there
         if way > 2 || way > 0 && said.number == 0 {
             grown = host;
@@ -104,6 +115,41 @@ pub fn compare(calls: u64, seed: u64) -> Tally {
         }
     }
     tally
+}
+
+/// A study copied to other tables: from the grown state, a changed one or noise; to the state of another study, a changed one, or
+/// noise in tables about as large as the source needs. An accepted copy and its source both go on, in turn.
+fn copied(grown: &mut Host, review: &mut Host, r: &mut Random) -> u64 {
+    let source = match r.below(8) {
+        0 => noise(r),
+        1 | 2 => damaged(grown, r),
+        _ => grown.clone(),
+    };
+    let mut target = match r.below(8) {
+        0 => noise(r),
+        1 => damaged(review, r),
+        2 | 3 => review.clone(),
+        _ => about_as_large(&source, r),
+    };
+    let result = target.copy_from(&source);
+    if result == 0 {
+        (*grown, *review) = if r.one_in(4) { (target, source) } else { (source, target) };
+    }
+    result
+}
+
+/// Tables of any numbers, each as large as the source's last live slot, or up to three slots more or less.
+fn about_as_large(source: &Host, r: &mut Random) -> Host {
+    let mut capacity = |table: &[u64], width: usize| {
+        let last = table.chunks(width).rposition(|row| row[0] != 0).map_or(0, |at| at as u64 + 1);
+        (last + r.of(&[0, 0, 0, 1, 3])).saturating_sub(r.of(&[0, 0, 0, 1, 1, 3])).clamp(1, 100)
+    };
+    let (elems, shared) = (capacity(&source.elems, FRAME), capacity(&source.shared, HEADER));
+    let mut host = Host::fresh(elems, shared);
+    let all = host.head.iter_mut().chain(&mut host.elems).chain(&mut host.shared);
+    all.for_each(|number| *number = r.odd(elems + 2));
+    (host.head[0], host.head[4]) = (elems, shared);
+    host
 }
 
 /// A new state, sometimes shortly before the generation's last number.

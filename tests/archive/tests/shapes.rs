@@ -227,9 +227,24 @@ fn random_numbers() {
         let sealed = ["insert", "insert_in_place", "union", "seal"].contains(&name);
         assert_eq!(had(12), sealed, "{name}: {counts:?}");
         assert_eq!(had(10), name == "undo", "{name}: {counts:?}");
+        let room: &[u64] = match name {
+            "clone_from" | "insert_surject" => &[5, 6],
+            "insert" | "insert_in_place" => &[5],
+            _ => &[],
+        };
+        assert_eq!([5, 6].map(had), [5, 6].map(|number| room.contains(&number)), "{name}: {counts:?}");
         // each entry with a key tells each cause, and no entry tells 3 without one
-        let keyless =
-            ["check", "clear", "compress_canonical", "compress_with", "drain_all", "fresh", "insert_surject", "undo"];
+        let keyless = [
+            "check",
+            "clear",
+            "clone_from",
+            "compress_canonical",
+            "compress_with",
+            "drain_all",
+            "fresh",
+            "insert_surject",
+            "undo",
+        ];
         let causes = [0, 1, 2, 3, 4].map(|cause| had(3 + 256 * cause));
         assert_eq!(
             causes,

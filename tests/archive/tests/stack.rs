@@ -1,8 +1,9 @@
 //! Canonical compression's follow of class entries is a recursion in the source. It must be a loop in the archive: its
-//! longest way, 65,535 steps, has to run in a small stack. So has the compression in slot order, where every row moves, and the
-//! largest union with its undo.
+//! longest way, 65,535 steps, has to run in a small stack. So has the compression in slot order, where every row moves, the
+//! largest union with its undo, and the largest copy.
 
-use archive::{head, run};
+use archive::copies::copy_at;
+use archive::{Lent, head, run};
 use model::door::Call;
 use model::{FRAME, HEADER, PAIR};
 
@@ -69,6 +70,35 @@ fn joined_and_taken_back() {
 #[test]
 fn the_largest_union_and_its_undo_in_a_small_stack() {
     in_a_small_stack(joined_and_taken_back);
+}
+
+/// Every other slot free, to the last: the longest chains to be made, in tables of other numbers.
+fn copied() {
+    let half = FRAMES / 2;
+    let mut numbers = head([FRAMES, FRAMES, FRAMES - 1, half, FRAMES, FRAMES, FRAMES - 1, half, 7]);
+    // odd slots are free, chained highest first in the source and lowest first in the copy
+    let lower = |slot: u64| slot.saturating_sub(2);
+    let higher = |slot: u64| if slot + 2 < FRAMES { slot + 2 } else { 0 };
+    let frame = |slot: u64, next: u64| if slot % 2 == 0 { [7, 1, slot, slot, slot, 3] } else { [0, 0, 0, 0, next, 0] };
+    let header = |slot: u64, next: u64| if slot % 2 == 0 { [1, slot, 0, 1, 3] } else { [0, 0, next, 0, 0] };
+    let mut elems: Vec<u64> = (1..=FRAMES).flat_map(|slot| frame(slot, lower(slot))).collect();
+    let mut shared: Vec<u64> = (1..=FRAMES).flat_map(|slot| header(slot, lower(slot))).collect();
+    let (mut copy, mut e, mut s) = ([9; model::HEAD], vec![9; elems.len()], vec![9; shared.len()]);
+    (copy[0], copy[4]) = (FRAMES, FRAMES);
+    let lent = |head, elems, shared| Lent { head, elems, shared, buffer: &mut [], out: std::ptr::null_mut() };
+    let before = (numbers, elems.clone(), shared.clone());
+    let to = lent(&mut copy, &mut e[..], &mut s[..]);
+    // Safety: all six are apart, and borrowed mutably
+    assert_eq!(unsafe { copy_at(to, lent(&mut numbers, &mut elems[..], &mut shared[..])) }, 0);
+    assert!((numbers, elems, shared) == before);
+    assert_eq!(copy, head([FRAMES, FRAMES, 1, half, FRAMES, FRAMES, 1, half, 7]));
+    assert!((1..=FRAMES).flat_map(|slot| frame(slot, higher(slot))).eq(e));
+    assert!((1..=FRAMES).flat_map(|slot| header(slot, higher(slot))).eq(s));
+}
+
+#[test]
+fn the_largest_copy_in_a_small_stack() {
+    in_a_small_stack(copied);
 }
 
 fn in_a_small_stack(test: impl FnOnce() + Send + 'static) {

@@ -332,16 +332,26 @@ fn any(host: &Host, payload: u64, r: &mut Random) -> Call {
 }
 
 /// Reckoned from the arguments of accepted calls: after each call every frame's size is the one that it was given, and every
-/// run's total the sum of those of its frames.
+/// run's total the sum of those of its frames. There are two studies, and copies from the one to the other: for the target of a copy
+/// the history starts anew, the copied frames put in.
 #[test]
 fn totals_are_those_of_the_history() {
     let mut r = Random::new(6);
-    let (mut largest, mut accepted, mut undone) = (0, 0, 0);
+    let (mut largest, mut accepted, mut undone, mut copied) = (0, 0, 0, 0);
     for _ in 0..400 {
         let most = 1 + r.below(14);
         let mut host = Host::fresh(most, 1 + r.below(most));
+        let mut other = (Host::fresh(1 + r.below(14), most), History::default());
         let mut history = History::default();
         for payload in 0..60 {
+            if r.one_in(8) && other.0.copy_from(&host) == 0 {
+                other.1 = History { frames: history.frames.clone(), ..History::default() };
+                copied += 1;
+            }
+            if r.one_in(6) {
+                std::mem::swap(&mut host, &mut other.0);
+                std::mem::swap(&mut history, &mut other.1);
+            }
             let (call, before) = (any(&host, payload, &mut r), host.clone());
             if host.call(call, &vec![0; host.elems.len().max(14 * RECORD)]).number == 0 {
                 history.note(&before, call);
@@ -357,7 +367,8 @@ fn totals_are_those_of_the_history() {
             }
         }
     }
-    assert!(largest > 2 * MOST_BYTES && accepted > 10_000 && undone > 100, "{largest} {accepted} {undone}");
+    assert!(largest > 2 * MOST_BYTES && accepted > 10_000, "{largest} {accepted}");
+    assert!(undone > 100 && copied > 1_000, "{undone} {copied}");
 }
 
 /// The total is the sum along next from every frame, read from the tables.

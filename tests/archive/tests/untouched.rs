@@ -1,12 +1,13 @@
 //! Refusals, below the table: a refusal leaves head, tables, outputs and scratch untouched. Here they lie in pages that
 //! cannot be written, where a store even of the numbers that stood there already ends the process: every refusal of
-//! every entry is had there.
+//! every entry is had there. So lies the source of every copy, accepted or not.
 
+use archive::copies::copy_at;
 use archive::{Host, Lent, UNTOUCHED, every_call, key, run_at};
 use doorsedge::sys::doorsedge_union_ceiling;
 use model::door::{self, Call};
 use model::layout::{COUNT, MARK, SIZE, TOTAL};
-use model::{FRAME, HEADER, Key, check};
+use model::{FRAME, HEADER, Key, Source, check, copy};
 use std::collections::BTreeSet;
 use std::ffi::{c_int, c_void};
 use std::ptr::{null_mut, slice_from_raw_parts_mut};
@@ -102,11 +103,17 @@ fn is_fault(end: &End) -> bool {
 fn end(parts: &Parts, call: &Call) -> End {
     let lent = parts.lent();
     // Safety: over pages that are apart
-    child(|| unsafe { run_at(lent, call) })
+    end_of(|| unsafe { run_at(lent, call) })
 }
 
-/// The same of any entry.
-fn child(entry: impl Fn() -> u64) -> End {
+/// The same of a copy, target first.
+fn end_of_copy(to: &Parts, from: &Parts) -> End {
+    let (to, from) = (to.lent(), from.lent());
+    // Safety: as above
+    end_of(|| unsafe { copy_at(to, from) })
+}
+
+fn end_of(make: impl FnOnce() -> u64) -> End {
     // an exit code has eight bits alone, and a result's cause stands above them
     let result = Pages::with(&[UNTOUCHED], SHARED);
     let mut status = 0;
@@ -115,7 +122,7 @@ fn child(entry: impl Fn() -> u64) -> End {
         let child = fork();
         assert!(child >= 0, "no process");
         if child == 0 {
-            result.start.write(entry());
+            result.start.write(make());
             _exit(0);
         }
         assert_eq!(waitpid(child, &mut status, 0), child);
@@ -132,6 +139,14 @@ fn model(host: &Host, call: &Call, buffer: &[u64]) -> (u64, [Vec<u64>; 5]) {
     let (h, e, s) = (&mut host.head, &mut host.elems, &mut host.shared);
     let number = door::run(check::sound, h, e, s, call, &mut buffer, &mut out);
     (number, [host.head.to_vec(), host.elems, host.shared, buffer, out.to_vec()])
+}
+
+/// The same of a copy: the model's result, and what it leaves of the target.
+fn model_copy(target: &Host, source: &Host) -> (u64, [Vec<u64>; 3]) {
+    let mut host = target.clone();
+    let from = Source { head: &source.head, elems: &source.elems, shared: &source.shared };
+    let number = copy::run(check::sound, &mut host.head, &mut host.elems, &mut host.shared, from);
+    (number, [host.head.to_vec(), host.elems, host.shared])
 }
 
 /// Runs of slots 1, 3 and of slot 2, in tables of these capacities.
@@ -221,7 +236,7 @@ fn ceiling_locked(n: u64) -> End {
     let out = Pages::of(&[UNTOUCHED]);
     out.lock();
     // Safety: `out` has its one place
-    child(|| unsafe { doorsedge_union_ceiling(n, out.start.cast()) })
+    end_of(|| unsafe { doorsedge_union_ceiling(n, out.start.cast()) })
 }
 
 #[test]
@@ -250,11 +265,74 @@ fn refusals_write_nothing() {
             }
         }
     }
+    for (target, source) in hosts().iter().flat_map(|target| sources().map(|source| (target.clone(), source))) {
+        let (number, _) = model_copy(&target, &source);
+        if number == 0 {
+            continue;
+        }
+        let (to, from) = (Parts::of(&target, &[]), Parts::of(&source, &[]));
+        to.0.iter().chain(&from.0).for_each(Pages::lock);
+        let end = end_of_copy(&to, &from);
+        if is_fault(&end) {
+            wrote.insert(("clone_from", number));
+        } else {
+            assert_eq!(end, End::Said(number), "a copy of {source:?} to {target:?}");
+            had.insert(("clone_from".to_owned(), number));
+        }
+    }
     assert!(wrote.is_empty(), "these refused, and wrote: {wrote:?}");
     // the one entry that takes no tables
     assert_eq!(ceiling_locked(0), End::Said(13));
     had.insert(("union_ceiling".to_owned(), 13));
     assert_eq!(had, listed());
+}
+
+/// What is copied: every state, and runs of which only the last slots are live.
+fn sources() -> impl Iterator<Item = Host> {
+    let last_alone = [(6, 1), (1, 6), (6, 6)].map(|(elems, shared)| {
+        let mut host = Host::fresh(6, 6);
+        for slot in 1..elems.max(shared) {
+            assert_eq!(host.call(Call::InsertSurject { payload: slot, value: slot, size: 9 }, &[]).number, 0);
+        }
+        let last = host.call(Call::InsertSurject { payload: 6, value: 6, size: 9 }, &[]).out;
+        assert_eq!(last[0], 6);
+        // the frame in slot 6 under the first header, or the one in slot 1 under the last
+        match (elems, shared) {
+            (6, 1) => drop(host.call(Call::Union(key(1, 1), key(6, 1)), &[])),
+            (1, 6) => drop(host.call(Call::Union(key(6, 1), key(1, 1)), &[])),
+            _ => (),
+        }
+        for slot in (1..=6).filter(|slot| *slot != elems) {
+            assert_eq!(host.call(Call::RemoveElement(key(slot, 1)), &[]).number, 0);
+        }
+        host
+    });
+    hosts().into_iter().chain(last_alone)
+}
+
+/// The source of an accepted copy is not stored to, and each part of the target that it changes is.
+#[test]
+fn a_copy_writes_its_target_alone() {
+    let mut accepted = 0;
+    for (target, source) in hosts().iter().flat_map(|target| sources().map(|source| (target.clone(), source))) {
+        let (number, after) = model_copy(&target, &source);
+        if number != 0 {
+            continue;
+        }
+        accepted += 1;
+        let from = Parts::of(&source, &[]);
+        from.0.iter().for_each(Pages::lock);
+        let to = Parts::of(&target, &[]);
+        assert_eq!(end_of_copy(&to, &from), End::Said(0), "a copy of {source:?} to {target:?}");
+        for (part, after) in after.iter().enumerate() {
+            let to = Parts::of(&target, &[]);
+            to.0[part].lock();
+            if to.0[part].numbers() != after {
+                assert!(is_fault(&end_of_copy(&to, &from)), "a copy does not write part {part}");
+            }
+        }
+    }
+    assert!(accepted > 50, "{accepted} accepted");
 }
 
 /// The pages do what the test above rests on: an accepted call, each part that it changes locked in turn, ends the process;
