@@ -1,7 +1,7 @@
 # Sourced by what builds over the archive or reads it, in the tree's folder. The archive is for x86-64. On such a processor this
 # sets the usual names. On another one Rust and C programs are built for x86-64 and run under an emulator; where that cannot
 # be had, a line says so, and the plain Rust model takes the archive's place (DOORSEDGE_MOCK).
-# Debian: gcc-x86-64-linux-gnu qemu-user rustc-web libstd-rust-web-dev:amd64 (after dpkg --add-architecture amd64).
+# Debian: gcc-x86-64-linux-gnu libc6-dev-amd64-cross qemu-user rustc-web libstd-rust-web-dev:amd64 (after dpkg --add-architecture amd64).
 
 builds() { # RUSTC: with it and the C compiler programs for x86-64 are made here, and the emulator runs them
     at=$(mktemp -d)
