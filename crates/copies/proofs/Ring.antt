@@ -12,7 +12,7 @@ use Rattle.rules.specs.Tables.{mostSlots, frameWidth, frameAt, cell, put, row, 
 use Rattle.rules.specs.Runs.{frame}
 use Rattle.rules.proofs.laws.Columns.{upd, upd-same, upd-at, upd-other, length-put, length-row, put-at, put-off, row-at}
 use Rattle.rules.proofs.laws.Steps.{steps-suc}
-use Rattle.rules.proofs.laws.Blocks.{beforeIn, afterIn}
+use Rattle.rules.specs.ReadFile.{beforeIn, afterIn}
 use Rattle.slots.specs.Asked.{Within}
 use Rattle.copies.specs.Parts.{Holds, Copiable, copiedFrame, Copied}
 

@@ -7,7 +7,7 @@ use lib.ListN.{length, getD}
 use Rattle.rules.specs.Notation.{steps}
 use Rattle.rules.specs.Tables.{mostSlots, frameWidth, frameAt, cell, generationOf, payloadOf, classOf, nextOf, bytesOf}
 use Rattle.rules.specs.Runs.{frame}
-use Rattle.rules.proofs.laws.Blocks.{beforeIn, afterIn}
+use Rattle.rules.specs.ReadFile.{beforeIn, afterIn}
 use Rattle.slots.specs.Asked.{Within}
 
 -- a slot holds these fields

@@ -12,11 +12,11 @@ ghost use mathlib.Core.Path.{_≡_};
 ghost use Prim.Native.Nat.{_+_, _≤_, _<_};
 ghost use lib.ListN.{length};
 ghost use Rattle.rules.specs.Tables.{mostSlots};
-ghost use Rattle.rules.proofs.laws.Blocks.{beforeIn, afterIn};
+ghost use Rattle.rules.specs.ReadFile.{beforeIn, afterIn};
 ghost use Rattle.copies.specs.Parts.{Copiable, Copied, Pasted, Zeroed};
 
 // In a block of `n` slots past `a`: the slot before its `i + 1`-th, and the slot after it.
-fn before(a: u64, n: u64, i: u64) -> u64
+pub fn before(a: u64, n: u64, i: u64) -> u64
     requires { ⌜ (a + n ≤ mostSlots) × (i < n) ⌝ }
     ensures { λ r. ⌜ r ≡ beforeIn a n i ⌝ }
 {
@@ -26,7 +26,7 @@ fn before(a: u64, n: u64, i: u64) -> u64
     a + i
 }
 
-fn after(a: u64, n: u64, i: u64) -> u64
+pub fn after(a: u64, n: u64, i: u64) -> u64
     requires { ⌜ (a + n ≤ mostSlots) × (i < n) ⌝ }
     ensures { λ r. ⌜ r ≡ afterIn a n i ⌝ }
 {

@@ -1,4 +1,6 @@
 // The host's door: every call for any tables, head and key; refusals 1 and 2 come first.
+pub use door_files::read_file;
+pub use door_files::write_file;
 pub use door_reads::exchange_disjoint_shared;
 pub use door_reads::get;
 pub use door_reads::get_shared;

@@ -18,10 +18,11 @@ use Rattle.rules.specs.Tables.{State, stateOf}
 use Rattle.rules.specs.Refusals.{Said, Outcome}
 use Rattle.rules.specs.Answers.{leaves}
 use Rattle.rules.specs.Calls.{Call, Is, AtDoor, freshStep}
+use Rattle.rules.specs.ReadFile.{readStep}
 use Rattle.rules.proofs.laws.Tests.{eq-is}
-use Rattle.rules.proofs.laws.Refused.{refused-changes-nothing, refused-fresh}
+use Rattle.rules.proofs.laws.Refused.{refused-changes-nothing, refused-fresh, refused-read}
 use Rattle.numbers.specs.Numbers.{headOf, values, Answered}
-use Rattle.promises.specs.Host.{Left, left, shown, AtHost, AtFresh}
+use Rattle.promises.specs.Host.{Left, left, shown, AtHost, AtFresh, AtRead}
 use Rattle.rules.specs.TwoTables.{TwoOutcome}
 use Rattle.rules.specs.Copy.{AtCopy}
 use Rattle.rules.proofs.laws.Copying.{copying}
@@ -62,20 +63,36 @@ module _ (c : Call) (numbers : Said → List ℕ) (head elems shared lent out : 
       (q ∙ kept r next (headOf head) (λ n. ap (λ (st : State). st .head) (refused-changes-nothing (stateOf h elems shared) lent c (leaves next elems′ shared′ lent′ said) d (λ e. n (a .number ∙ small said 0 (lit< tt) .1 e)) .state) ∙ p))
       a
 
--- the same of fresh
-pub freshened : (elemCapacity sharedCapacity : ℕ) (head elems shared : List ℕ) (h next : Head) (said : Said) (r : ℕ) (after elems′ shared′ : List ℕ)
-    → h ≡ headOf head
-    → leaves next elems′ shared′ [] said ≡ freshStep (stateOf h elems shared) elemCapacity sharedCapacity
-    → Answered values said [] r []
-    → headOf after ≡ (if r == 0 then next else headOf head)
-    → AtFresh elemCapacity sharedCapacity head elems shared (left r after elems′ shared′ [] [])
-freshened elemCapacity sharedCapacity head elems shared h next said r after elems′ shared′ p d a q =
-    let unchanged : r ≢ 0 → next ≡ headOf head =
-    λ n. ap (λ (o : Outcome). o .state .head) d ∙ ap (λ (st : State). st .head) (refused-fresh (stateOf h elems shared) elemCapacity sharedCapacity (λ e. n (a .number ∙ small said 0 (lit< tt) .1 (ap (λ (o : Outcome). o .said .number) d ∙ e))) .state) ∙ p in
-    let same : headOf after ≡ next = q ∙ kept r next (headOf head) unchanged in
-    let told : left r after elems′ shared′ [] [] ≡ shown values [] (leaves next elems′ shared′ [] said) =
-    λ i. record { number = a .number i; state = stateOf (same i) elems′ shared′; lent = []; out = a .out i } in
-    record { same = told ∙ ap (shown values []) (d ∙ ap (λ (k : Head). freshStep (stateOf k elems shared) elemCapacity sharedCapacity) p) }
+-- the same of a call that has no door but its own
+module _ (step : State → Outcome) (refused : (st : State) → step st .said .number ≢ 0 → step st .state ≡ st) (head elems shared : List ℕ) (h next : Head) (said : Said) (r : ℕ) (after elems′ shared′ : List ℕ) where
+  own-door : h ≡ headOf head
+      → leaves next elems′ shared′ [] said ≡ step (stateOf h elems shared)
+      → Answered values said [] r []
+      → headOf after ≡ (if r == 0 then next else headOf head)
+      → left r after elems′ shared′ [] [] ≡ shown values [] (step (stateOf (headOf head) elems shared))
+  own-door p d a q =
+      let unchanged : r ≢ 0 → next ≡ headOf head =
+      λ n. ap (λ (o : Outcome). o .state .head) d ∙ ap (λ (st : State). st .head) (refused (stateOf h elems shared) (λ e. n (a .number ∙ small said 0 (lit< tt) .1 (ap (λ (o : Outcome). o .said .number) d ∙ e)))) ∙ p in
+      let same : headOf after ≡ next = q ∙ kept r next (headOf head) unchanged in
+      let told : left r after elems′ shared′ [] [] ≡ shown values [] (leaves next elems′ shared′ [] said) =
+      λ i. record { number = a .number i; state = stateOf (same i) elems′ shared′; lent = []; out = a .out i } in
+      told ∙ ap (shown values []) (d ∙ ap (λ (k : Head). step (stateOf k elems shared)) p)
+
+-- fresh, and the reader
+module _ (head elems shared : List ℕ) (h next : Head) (said : Said) (r : ℕ) (after elems′ shared′ : List ℕ) (p : h ≡ headOf head) where
+  pub freshened : (elemCapacity sharedCapacity : ℕ)
+      → leaves next elems′ shared′ [] said ≡ freshStep (stateOf h elems shared) elemCapacity sharedCapacity
+      → Answered values said [] r []
+      → headOf after ≡ (if r == 0 then next else headOf head)
+      → AtFresh elemCapacity sharedCapacity head elems shared (left r after elems′ shared′ [] [])
+  freshened ec sc d a q = record { same = own-door (λ st. freshStep st ec sc) (λ st n. refused-fresh st ec sc n .state) head elems shared h next said r after elems′ shared′ p d a q }
+
+  pub read-in : (file : List ℕ)
+      → leaves next elems′ shared′ [] said ≡ readStep (stateOf h elems shared) file
+      → Answered values said [] r []
+      → headOf after ≡ (if r == 0 then next else headOf head)
+      → AtRead file head elems shared (left r after elems′ shared′ [] [])
+  read-in file d a q = record { same = own-door (λ st. readStep st file) (λ st n. refused-read st file n .state) head elems shared h next said r after elems′ shared′ p d a q }
 
 -- the same of the copy: the target's head is stored if it was accepted, the source is as it was
 module _ (head elems shared fromHead fromElems fromShared : List ℕ) where

@@ -1,5 +1,6 @@
 // The entries that a host calls (include/doorsedge.h): each takes the lent head apart, calls the door, and, if it accepted, stores the head that it hands back.
 mod figures;
+mod files;
 mod frames;
 mod in_place;
 mod ordered;

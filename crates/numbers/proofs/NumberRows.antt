@@ -64,6 +64,6 @@ refused : Answered removalNumbers (said 4 (41 ∷ 42 ∷ []) true) (51 ∷ 52 �
 refused = record { number = refl; out = refl }
 
 -- Ticket 5: the result, with the cause of 3 above its low eight bits
-results : map resultOf (said 0 (1 ∷ []) true ∷ said 2 [] false ∷ said 3 (1 ∷ []) false ∷ said 3 (2 ∷ []) false ∷ said 3 (3 ∷ []) false ∷ said 3 (1 ∷ 9 ∷ []) true ∷ said 4 [] false ∷ said 10 [] false ∷ said 12 [] false ∷ [])
-    ≡ 0 ∷ 2 ∷ 259 ∷ 515 ∷ 771 ∷ 259 ∷ 4 ∷ 10 ∷ 12 ∷ []
+results : map resultOf (said 0 (1 ∷ []) true ∷ said 2 [] false ∷ said 3 (1 ∷ []) false ∷ said 3 (2 ∷ []) false ∷ said 3 (3 ∷ []) false ∷ said 3 (1 ∷ 9 ∷ []) true ∷ said 4 [] false ∷ said 9 [] false ∷ said 10 [] false ∷ said 11 [] false ∷ said 12 [] false ∷ [])
+    ≡ 0 ∷ 2 ∷ 259 ∷ 515 ∷ 771 ∷ 259 ∷ 4 ∷ 9 ∷ 10 ∷ 11 ∷ 12 ∷ []
 results = refl

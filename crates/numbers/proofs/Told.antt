@@ -10,7 +10,7 @@ use lib.ListN.{getD}
 use Rattle.rules.specs.Notation.{if_then_else_, _==_}
 use Rattle.rules.specs.declared.Cause.the-variants.{NoSlot, FreeSlot, OtherGeneration}
 use Rattle.rules.specs.declared.Refusal.{Refusal}
-use Rattle.rules.specs.declared.Refusal.the-variants.{Shape, Unsound, Dead, SameClass, NoElement, NoShared, Short, Malformed, Nothing, Sealed, OutOfRange}
+use Rattle.rules.specs.declared.Refusal.the-variants.{Shape, Unsound, Dead, SameClass, NoElement, NoShared, Short, Malformed, NoFile, Nothing, Version, Sealed, OutOfRange}
 use Rattle.rules.specs.Refusals.{numberOf, valuesOf, Said, saidRefused, saidAccepted}
 use Rattle.rules.specs.Calls.{Is}
 use Rattle.rules.specs.Answers.{saidBeside}
@@ -27,7 +27,9 @@ kept NoElement a b = refl
 kept NoShared a b = refl
 kept Short a b = refl
 kept Malformed a b = refl
+kept NoFile a b = refl
 kept Nothing a b = refl
+kept Version a b = refl
 kept Sealed a b = refl
 kept OutOfRange a b = refl
 
@@ -41,7 +43,9 @@ alike NoElement values over = refl
 alike NoShared values over = refl
 alike Short values over = refl
 alike Malformed values over = refl
+alike NoFile values over = refl
 alike Nothing values over = refl
+alike Version values over = refl
 alike Sealed values over = refl
 alike OutOfRange values over = refl
 
@@ -58,7 +62,9 @@ composed NoElement = refl
 composed NoShared = refl
 composed Short = refl
 composed Malformed = refl
+composed NoFile = refl
 composed Nothing = refl
+composed Version = refl
 composed Sealed = refl
 composed OutOfRange = refl
 
@@ -73,7 +79,9 @@ few NoElement = (lit≤ tt, lit≤ tt)
 few NoShared = (lit≤ tt, lit≤ tt)
 few Short = (lit≤ tt, lit≤ tt)
 few Malformed = (lit≤ tt, lit≤ tt)
+few NoFile = (lit≤ tt, lit≤ tt)
 few Nothing = (lit≤ tt, lit≤ tt)
+few Version = (lit≤ tt, lit≤ tt)
 few Sealed = (lit≤ tt, lit≤ tt)
 few OutOfRange = (lit≤ tt, lit≤ tt)
 
@@ -89,7 +97,9 @@ number-back NoElement = refl
 number-back NoShared = refl
 number-back Short = refl
 number-back Malformed = refl
+number-back NoFile = refl
 number-back Nothing = refl
+number-back Version = refl
 number-back Sealed = refl
 number-back OutOfRange = refl
 
@@ -104,7 +114,9 @@ cause-back NoElement = refl
 cause-back NoShared = refl
 cause-back Short = refl
 cause-back Malformed = refl
+cause-back NoFile = refl
 cause-back Nothing = refl
+cause-back Version = refl
 cause-back Sealed = refl
 cause-back OutOfRange = refl
 

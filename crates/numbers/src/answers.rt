@@ -17,7 +17,7 @@ ghost use Rattle.rules.specs.Refusals.{numberOf, causeNumber, valuesOf, saidRef
 ghost use Rattle.rules.specs.Answers.{saidDone, saidNumber, saidSame, saidInserted, saidJoined, saidSeal, saidRemoved, saidOld};
 ghost use Rattle.numbers.specs.Numbers.{Answered, flag, resultOf, values, valuesOver, removalNumbers};
 
-// Refusals 1 to 8, 10, 12 and 13.
+// Refusals 1 to 13.
 pub fn number_of(r: Refusal) -> u64
     ensures { λ n. ⌜ n ≡ numberOf r ⌝ }
 {
@@ -30,7 +30,9 @@ pub fn number_of(r: Refusal) -> u64
         Refusal::NoShared => 6,
         Refusal::Short => 7,
         Refusal::Malformed => 8,
+        Refusal::NoFile => 9,
         Refusal::Nothing => 10,
+        Refusal::Version => 11,
         Refusal::Sealed => 12,
         Refusal::OutOfRange => 13,
     }

@@ -8,7 +8,7 @@ use Rattle.rules.specs.declared.Head.{Head}
 use Rattle.rules.specs.Tables.{State}
 use Rattle.rules.specs.Refusals.{Said, Outcome}
 use Rattle.rules.specs.TwoTables.{TwoOutcome}
-use Rattle.rules.specs.Calls.{Call, lenSurject, inSameSurject, getElement, getShared, getSize, getTotal, lookup, setElement, setShared, check, newRun, insert, union, remove, removeShared, list, drain, drainAll, clear, undo, exchange, compress}
+use Rattle.rules.specs.Calls.{Call, lenSurject, inSameSurject, getElement, getShared, getSize, getTotal, lookup, setElement, setShared, check, newRun, insert, union, remove, removeShared, list, drain, drainAll, clear, undo, exchange, compress, writeFile}
 use Rattle.rules.proofs.Cases.{key, pool}
 use Rattle.numbers.specs.Numbers.{headOf, values, valuesOver, removalNumbers}
 use Rattle.promises.specs.Host.{keyOf, keysOf, isSet, Left, left, shown}
@@ -82,9 +82,9 @@ tells-over = refl
 abbrev plain : List Call
 plain =
     newRun 1 2 0 ∷ insert (key 5 7) 1 0 ∷ union (key 5 7) (key 6 8) ∷ undo ∷ drain (key 5 7) ∷ drainAll ∷ list (key 5 7) ∷ lenSurject (key 5 7) ∷ inSameSurject (key 5 7) (key 6 8) ∷
-    getElement (key 5 7) ∷ getShared (key 5 7) ∷ getSize (key 5 7) ∷ getTotal (key 5 7) ∷ lookup (key 5 7) ∷ setElement (key 5 7) 1 ∷ setShared (key 5 7) 2 ∷ exchange [] [] ∷ check ∷ []
+    getElement (key 5 7) ∷ getShared (key 5 7) ∷ getSize (key 5 7) ∷ getTotal (key 5 7) ∷ lookup (key 5 7) ∷ setElement (key 5 7) 1 ∷ setShared (key 5 7) 2 ∷ exchange [] [] ∷ check ∷ writeFile ∷ []
 
-tells-values : told plain ≡ replicate 18 (61 ∷ 62 ∷ [])
+tells-values : told plain ≡ replicate 19 (61 ∷ 62 ∷ [])
 tells-values = refl
 
 -- two recorders' tables: each part of both sides is its own

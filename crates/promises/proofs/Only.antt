@@ -10,7 +10,7 @@ use Rattle.rules.proofs.Door
 use Rattle.rules.proofs.laws.TwoDoors.{two-only}
 use Rattle.numbers.specs.Numbers.{values}
 use Rattle.numbers.proofs.Thirteen.{only-thirteen}
-use Rattle.promises.specs.Host.{Left, left, shown, AtHost, AtFresh}
+use Rattle.promises.specs.Host.{Left, left, shown, AtHost, AtFresh, AtRead}
 use Rattle.promises.specs.InPlace.{leftAt, AtHead}
 use Rattle.promises.specs.Two.{TwoLeft, leftTwo, shownTwo, AtHostCopy}
 
@@ -64,6 +64,13 @@ pub only-at-fresh : (elemCapacity sharedCapacity : ℕ) (head elems shared : Lis
     → AtFresh elemCapacity sharedCapacity head elems shared (left r′ h′ e′ s′ l′ o′)
     → Same r r′ h h′ e e′ s s′ l l′ o o′
 only-at-fresh elemCapacity sharedCapacity head elems shared r r′ h h′ e e′ s s′ l l′ o o′ n n′ p q = told-thirteen r r′ h h′ e e′ s s′ l l′ o o′ n n′ (p .same ∙ sym (q .same))
+
+-- and the reader
+pub only-at-read : (file head elems shared : List ℕ) (r r′ : ℕ) (h h′ e e′ s s′ l l′ o o′ : List ℕ) → length h ≡ 13 → length h′ ≡ 13
+    → AtRead file head elems shared (left r h e s l o)
+    → AtRead file head elems shared (left r′ h′ e′ s′ l′ o′)
+    → Same r r′ h h′ e e′ s s′ l l′ o o′
+only-at-read file head elems shared r r′ h h′ e e′ s s′ l l′ o o′ n n′ p q = told-thirteen r r′ h h′ e e′ s s′ l l′ o o′ n n′ (p .same ∙ sym (q .same))
 
 -- an entry over a head lent in place, which has no buffer
 pub only-at-head : (c : Call) (numbers : Said → List ℕ) (head : Head) (elems shared out : List ℕ) (r r′ : ℕ) (h h′ : Head) (e e′ s s′ o o′ : List ℕ)

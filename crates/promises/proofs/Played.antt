@@ -5,13 +5,15 @@ use mathlib.Core.List.{List, [], _∷_, _++_}
 use lib.ListN.{replicate}
 use Rattle.rules.specs.declared.Key.{Key}
 use Rattle.rules.specs.Tables.{frameWidth, headerWidth}
-use Rattle.rules.specs.Calls.{newRun, insert, union, undo, remove}
+use Rattle.rules.specs.Calls.{newRun, insert, union, undo, remove, writeFile}
 use Rattle.rules.specs.History.{History, Given, othersOf, runsBut, insertedRuns, joinedRuns, removedRuns, nothing}
 use Rattle.rules.proofs.Cases.{rules, key, ez, mz, zeros}
 use Rattle.rules.proofs.CasesCopied.{copies}
+use Rattle.rules.proofs.CasesFile.{files, u4, u8, f, studyFile}
+use Rattle.rules.proofs.WitnessFile.{study-bytes}
 use Rattle.numbers.specs.Numbers.{headOf}
-use Rattle.promises.specs.Sequence.{AfterEntries, freshened, called, calledInPlace, copied}
-use Rattle.promises.proofs.Sequences.{begins, goes-on, goes-on-in-place, copies-to}
+use Rattle.promises.specs.Sequence.{AfterEntries, freshened, called, calledInPlace, begunRead, readIn, copied}
+use Rattle.promises.proofs.Sequences.{begins, goes-on, goes-on-in-place, reads-in, copies-to}
 
 abbrev given : Key → ℕ → Given
 given k z = record { key = k; bytes = z }
@@ -81,3 +83,22 @@ copiedTo = copied left (2 ∷ 91 ∷ 92 ∷ 93 ∷ 1 ∷ 94 ∷ 95 ∷ 96 ∷ 97
 copiedJoined : AfterEntries (3 ∷ 3 ∷ 0 ∷ 3 ∷ 1 ∷ 1 ∷ 0 ∷ 1 ∷ 1 ∷ 0 ∷ 0 ∷ 0 ∷ 0 ∷ []) (ez 1 10 1 2 3 7 ++ ez 1 11 1 3 1 20 ++ ez 1 20 1 1 2 4000) (mz 3 100 0 4027) (told ((key 3 1 ∷ key 2 1 ∷ key 1 1 ∷ []) ∷ []) (given (key 3 1) 4000 ∷ given (key 2 1) 20 ∷ given (key 1 1) 7 ∷ []) 3 0 1)
 unfolding rules copies headOf
 copiedJoined = copied joined (3 ∷ 91 ∷ 92 ∷ 93 ∷ 1 ∷ 94 ∷ 95 ∷ 96 ∷ 97 ∷ 1 ∷ 2 ∷ 1 ∷ 98 ∷ []) (replicate 18 9) (replicate 5 8) _ _ _ (copies-to joined (3 ∷ 91 ∷ 92 ∷ 93 ∷ 1 ∷ 94 ∷ 95 ∷ 96 ∷ 97 ∷ 1 ∷ 2 ∷ 1 ∷ 98 ∷ []) (replicate 18 9) (replicate 5 8) refl refl)
+
+-- Ticket 11: written to lent bytes, of which there is one more than are needed, nothing is noted
+written : AfterEntries (4 ∷ 3 ∷ 3 ∷ 2 ∷ 3 ∷ 2 ∷ 2 ∷ 1 ∷ 2 ∷ 0 ∷ 0 ∷ 0 ∷ 0 ∷ []) (ez 1 10 1 2 2 7 ++ ez 1 11 1 1 1 20 ++ zeros frameWidth 2) (mz 2 100 0 27 ++ zeros headerWidth 2) (toldAfter ((key 2 1 ∷ key 1 1 ∷ []) ∷ []) (given (key 2 1) 20 ∷ given (key 1 1) 7 ∷ []) 3 1 2)
+unfolding rules files headOf
+written = called left writeFile (replicate 61 9) (95 ∷ []) 0 _ _ _ (u4 1 ++ u4 1 ++ u4 16 ++ u4 44 ++ u8 100 ++ u8 27 ++ u4 2 ++ f 10 7 ++ f 11 20 ++ 9 ∷ []) (60 ∷ []) (goes-on left writeFile (replicate 61 9) (95 ∷ []))
+
+-- another study's file is read in their place: a fresh call that puts its three frames in
+readOver : AfterEntries (4 ∷ 3 ∷ 0 ∷ 3 ∷ 3 ∷ 2 ∷ 0 ∷ 2 ∷ 1 ∷ 0 ∷ 0 ∷ 0 ∷ 0 ∷ []) (ez 1 20 1 2 2 7 ++ ez 1 51 1 1 1 14 ++ ez 1 40 2 3 3 11 ++ zeros frameWidth 1) (mz 2 200 0 21 ++ mz 1 400 0 11 ++ zeros headerWidth 1) (toldAfter ((key 1 1 ∷ key 2 1 ∷ []) ∷ (key 3 1 ∷ []) ∷ []) (given (key 1 1) 7 ∷ given (key 2 1) 14 ∷ given (key 3 1) 11 ∷ []) 6 3 1)
+unfolding rules files headOf
+readOver = readIn written studyFile study-bytes 0 _ _ _ (reads-in studyFile _ _ _)
+
+-- into the copy's tables it does not go: 6, and nothing is noted; into others, whatever they held, it does, and begins a history
+unreadInto : AfterEntries (2 ∷ 2 ∷ 0 ∷ 2 ∷ 1 ∷ 1 ∷ 0 ∷ 1 ∷ 2 ∷ 0 ∷ 0 ∷ 0 ∷ 0 ∷ []) (ez 1 10 1 2 2 7 ++ ez 1 11 1 1 1 20) (mz 2 100 0 27) (told ((key 2 1 ∷ key 1 1 ∷ []) ∷ []) (given (key 2 1) 20 ∷ given (key 1 1) 7 ∷ []) 2 0 2)
+unfolding rules files headOf
+unreadInto = readIn copiedTo studyFile study-bytes 6 _ _ _ (reads-in studyFile _ _ _)
+
+readFirst : AfterEntries (3 ∷ 3 ∷ 0 ∷ 3 ∷ 2 ∷ 2 ∷ 0 ∷ 2 ∷ 1 ∷ 0 ∷ 0 ∷ 0 ∷ 0 ∷ []) (ez 1 20 1 2 2 7 ++ ez 1 51 1 1 1 14 ++ ez 1 40 2 3 3 11) (mz 2 200 0 21 ++ mz 1 400 0 11) (told ((key 1 1 ∷ key 2 1 ∷ []) ∷ (key 3 1 ∷ []) ∷ []) (given (key 1 1) 7 ∷ given (key 2 1) 14 ∷ given (key 3 1) 11 ∷ []) 3 0 1)
+unfolding rules files headOf
+readFirst = begunRead studyFile study-bytes (3 ∷ 91 ∷ 92 ∷ 93 ∷ 2 ∷ 94 ∷ 95 ∷ 96 ∷ 97 ∷ 1 ∷ 2 ∷ 1 ∷ 98 ∷ []) (replicate 18 9) (replicate 10 8) _ _ _ (reads-in studyFile _ _ _)

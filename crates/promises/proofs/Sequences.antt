@@ -14,9 +14,12 @@ use Rattle.rules.specs.Refusals.{Ruling, Said, Outcome, outcome, shaped}
 use Rattle.rules.specs.Slots
 use Rattle.rules.specs.Slots.{isFull}
 use Rattle.rules.specs.Runs
-use Rattle.rules.specs.Calls.{Call, lenSurject, inSameSurject, getElement, getShared, getSize, getTotal, lookup, setElement, setShared, check, newRun, insert, union, remove, removeShared, list, drain, seal, drainAll, clear, undo, exchange, compress, compressWith, step, freshStep, AtDoor}
-use Rattle.rules.specs.History.{History, accepted, noted, notedFresh, nothing, begunWith}
-use Rattle.rules.specs.Demand.{After, start, fresh, call, copy, Union}
+use Rattle.rules.specs.Calls.{Call, lenSurject, inSameSurject, getElement, getShared, getSize, getTotal, lookup, setElement, setShared, check, newRun, insert, union, remove, removeShared, list, drain, seal, drainAll, clear, undo, exchange, compress, compressWith, writeFile, step, freshStep, AtDoor}
+use Rattle.rules.specs.Bytes.{Bytes}
+use Rattle.rules.specs.ReadFile.{readFile, oldReader, readStep, runsOf}
+use Rattle.rules.specs.RunFile.{StoredRun}
+use Rattle.rules.specs.History.{History, accepted, noted, notedFresh, nothing, begunWith, readInto, notedRead}
+use Rattle.rules.specs.Demand.{After, start, fresh, call, startRead, read, copy, Union}
 use Rattle.rules.proofs.laws.Rulings.{by-test, by-key}
 use Rattle.rules.specs.Copy.{cloneStep}
 use Rattle.rules.proofs.laws.TwoDoors.{both-pass}
@@ -25,10 +28,10 @@ use Rattle.rules.proofs.laws.Recalls.{remembers}
 use Rattle.numbers.specs.Numbers.{headOf, values, resultOf}
 use Rattle.numbers.proofs.Told.{zero-result, small}
 use Rattle.numbers.proofs.Thirteen.{thirteenOf, head-of-thirteen}
-use Rattle.promises.specs.Host.{Left, left, shown, AtHost}
+use Rattle.promises.specs.Host.{Left, left, shown, AtHost, AtRead}
 use Rattle.promises.specs.InPlace.{leftAt, AtHead}
 use Rattle.promises.specs.Two.{TwoLeft, leftTwo, shownTwo, AtHostCopy}
-use Rattle.promises.specs.Sequence.{numbersOf, heard, lentState, AfterEntries, begun, freshened, called, calledInPlace, copied, Demand3AtHost}
+use Rattle.promises.specs.Sequence.{numbersOf, heard, lentState, AfterEntries, begun, freshened, called, calledInPlace, begunRead, readIn, copied, Demand3AtHost}
 
 -- the history takes from the numbers in `out` what it takes from the answer: the key of a frame put in
 accepted-heard : (h : History) (c : Call) (said : Said) → accepted h c (numbersOf c said) ≡ accepted h c (said .values)
@@ -56,6 +59,7 @@ accepted-heard h (setShared k value) said = refl
 accepted-heard h (exchange keys news) said = refl
 accepted-heard h (list k) said = refl
 accepted-heard h check said = refl
+accepted-heard h writeFile said = refl
 
 -- so what a host is told notes the history that the answer does
 noted-heard : (h : History) (c : Call) (out : List ℕ) (o : Outcome) → noted h c (heard (resultOf (o .said)) (shown (numbersOf c) out o .out)) ≡ noted h c (o .said)
@@ -67,6 +71,9 @@ noted-heard h c out o = rw (zero-result (o .said)) (go (o .said .number == 0))
 
 noted-fresh : (h : History) (said : Said) → notedFresh h (heard (resultOf said) []) ≡ notedFresh h said
 noted-fresh h said = rw (zero-result said)
+
+noted-read : (h : History) (rs : List StoredRun) (said : Said) → notedRead h rs (heard (resultOf said) []) ≡ notedRead h rs said
+noted-read h rs said = rw (zero-result said)
 
 -- 1 and 2 are told as they are
 not-refused : (said : Said) → (said .number ≢ 1) × (said .number ≢ 2) → (resultOf said ≢ 1) × (resultOf said ≢ 2)
@@ -89,6 +96,11 @@ after-entries (called {h = h} a c lent out r head′ elems′ shared′ lent′ 
     leads h c _ (after-entries a) lent out (left r head′ elems′ shared′ lent′ out′) (p .outcome) (p .door) (p .same)
 after-entries (calledInPlace {h = h} a c out r head′ elems′ shared′ out′ p) =
     leads h c _ (after-entries a) [] out (leftAt r (headOf head′) elems′ shared′ out′) (p .outcome) (p .door) (p .same)
+after-entries (begunRead file b head elems shared head′ elems′ shared′ p) =
+    let st = lentState head elems shared in
+    subst (λ (l : Left). After (l .state) (readInto nothing (runsOf file))) (sym (p .same)) (startRead st file b (small (readStep st file .said) 0 (lit< tt) .0 (sym (ap (λ (l : Left). l .number) (p .same)))))
+after-entries (readIn {head = head} {elems = elems} {shared = shared} {h = h} a file b r head′ elems′ shared′ p) =
+    subst (λ (l : Left). After (l .state) (notedRead h (runsOf file) (heard (l .number) []))) (sym (p .same)) (rw (noted-read h (runsOf file) (readStep (lentState head elems shared) file .said)) (read (after-entries a) file b))
 after-entries (copied {head = head} {elems = elems} {shared = shared} {h = h} a toHead toElems toShared head′ elems′ shared′ p) =
     subst (λ (l : TwoLeft). After (l .target) (begunWith h)) (sym (p .same))
     (copy (after-entries a) (lentState toHead toElems toShared) (p .outcome) (p .door) (small (p .outcome .said) 0 (lit< tt) .0 (sym (ap (λ (l : TwoLeft). l .number) (p .same)))))
@@ -121,6 +133,11 @@ module _ {head elems shared : List ℕ} {h : History} (a : AfterEntries head ele
         let l = shown (numbersOf c) out (step (lentState head elems shared) [] c) in
         rw head-of-thirteen (λ i. record { number = l .number; state = l .state; lent = sym e i; out = l .out });
   }
+
+-- and so can a read of any file: its entry leaves what its own rule says
+pub reads-in : (file head elems shared : List ℕ) → let l = shown values [] (readStep (lentState head elems shared) file) in
+    AtRead file head elems shared (left (l .number) (thirteenOf (l .state .head)) (l .state .elems) (l .state .shared) (l .lent) (l .out))
+reads-in file head elems shared = record { same = rw head-of-thirteen }
 
 -- and so can a copy to a head and tables that fit: its entry leaves what its own rule says
 pub copies-to : {head elems shared : List ℕ} {h : History} → AfterEntries head elems shared h → (toHead toElems toShared : List ℕ) → shaped (lentState toHead toElems toShared) ≡ true

@@ -9,6 +9,7 @@ use Rattle.rules.specs.Notation.{if_then_else_, _==_}
 use Rattle.rules.specs.Tables.{State, stateOf}
 use Rattle.rules.specs.Refusals.{Said, Outcome}
 use Rattle.rules.specs.Calls.{Call, AtDoor, freshStep}
+use Rattle.rules.specs.ReadFile.{readStep}
 use Rattle.numbers.specs.Numbers.{headOf, values, resultOf}
 
 abbrev pub keyOf : (slot generation : ℕ) → Key
@@ -47,3 +48,7 @@ pub record AtHost (c : Call) (numbers : Said → List ℕ) (head elems shared le
 -- The promise of fresh, which has no door but its own
 pub record AtFresh (elemCapacity sharedCapacity : ℕ) (head elems shared : List ℕ) (after : Left) : Type 0 where
   pub same : after ≡ shown values [] (freshStep (stateOf (headOf head) elems shared) elemCapacity sharedCapacity)
+
+-- Ticket 11: the promise of the reader, which has no door but its own either
+pub record AtRead (file head elems shared : List ℕ) (after : Left) : Type 0 where
+  pub same : after ≡ shown values [] (readStep (stateOf (headOf head) elems shared) file)

@@ -6,11 +6,13 @@ use mathlib.Core.List.{List, []}
 use Rattle.rules.specs.declared.Key.{Key}
 use Rattle.rules.specs.Tables.{State, stateOf}
 use Rattle.rules.specs.Refusals.{Said}
-use Rattle.rules.specs.Calls.{Call, lenSurject, inSameSurject, getElement, getShared, getSize, getTotal, lookup, setElement, setShared, check, newRun, insert, union, remove, removeShared, list, drain, seal, drainAll, clear, undo, exchange, compress, compressWith}
-use Rattle.rules.specs.History.{History, noted, notedFresh, nothing, begunWith}
+use Rattle.rules.specs.Calls.{Call, lenSurject, inSameSurject, getElement, getShared, getSize, getTotal, lookup, setElement, setShared, check, newRun, insert, union, remove, removeShared, list, drain, seal, drainAll, clear, undo, exchange, compress, compressWith, writeFile}
+use Rattle.rules.specs.Bytes.{Bytes}
+use Rattle.rules.specs.ReadFile.{runsOf}
+use Rattle.rules.specs.History.{History, noted, notedFresh, nothing, begunWith, readInto, notedRead}
 use Rattle.rules.specs.Demand.{Agrees, Union}
 use Rattle.numbers.specs.Numbers.{headOf, values, valuesOver, removalNumbers}
-use Rattle.promises.specs.Host.{Left, left, AtHost, AtFresh}
+use Rattle.promises.specs.Host.{Left, left, AtHost, AtFresh, AtRead}
 use Rattle.promises.specs.InPlace.{leftAt, AtHead}
 use Rattle.promises.specs.Two.{leftTwo, AtHostCopy}
 
@@ -40,6 +42,7 @@ numbersOf (setElement k payload) = values
 numbersOf (setShared k value) = values
 numbersOf (exchange keys news) = values
 numbersOf check = values
+numbersOf writeFile = values
 
 -- what a host is told: an entry's result, and the numbers in `out`
 abbrev pub heard : (number : ℕ) → (out : List ℕ) → Said
@@ -49,7 +52,7 @@ heard number out = record { number = number; values = out; over = false }
 abbrev pub lentState : (head elems shared : List ℕ) → State
 lentState head elems shared = stateOf (headOf head) elems shared
 
--- Start from tables that fresh accepts, whatever they held, and hand head and tables on unaltered from entry to entry, refused ones included.
+-- Start from tables that fresh or the reader accepts, whatever they held, and hand head and tables on unaltered from entry to entry, refused ones included.
 -- The history is noted from the calls and what the host is told, and from nothing else. A head lent in place is the one that its thirteen numbers are.
 pub data AfterEntries : (head elems shared : List ℕ) → History → Type 0 where
   begun : (elemCapacity sharedCapacity : ℕ) (head elems shared head′ elems′ shared′ : List ℕ)
@@ -67,6 +70,14 @@ pub data AfterEntries : (head elems shared : List ℕ) → History → Type 0 wh
       → (c : Call) (out : List ℕ) (r : ℕ) (head′ elems′ shared′ out′ : List ℕ)
       → AtHead c (numbersOf c) (headOf head) elems shared out (leftAt r (headOf head′) elems′ shared′ out′)
       → AfterEntries head′ elems′ shared′ (noted h c (heard r out′))
+  -- Ticket 11: a file, which is a list of bytes, is read into such a head and tables, or to begin with into any that fit
+  begunRead : (file : List ℕ) → Bytes file → (head elems shared head′ elems′ shared′ : List ℕ)
+      → AtRead file head elems shared (left 0 head′ elems′ shared′ [] [])
+      → AfterEntries head′ elems′ shared′ (readInto nothing (runsOf file))
+  readIn : {head elems shared : List ℕ} {h : History} → AfterEntries head elems shared h
+      → (file : List ℕ) → Bytes file → (r : ℕ) (head′ elems′ shared′ : List ℕ)
+      → AtRead file head elems shared (left r head′ elems′ shared′ [] [])
+      → AfterEntries head′ elems′ shared′ (notedRead h (runsOf file) (heard r []))
   -- Ticket 10: a copy that answers 0 from such a head and tables, to a head and tables that may hold anything
   copied : {head elems shared : List ℕ} {h : History} → AfterEntries head elems shared h
       → (toHead toElems toShared head′ elems′ shared′ : List ℕ)

@@ -12,10 +12,10 @@ use Rattle.rules.specs.declared.Memory.{Memory}
 use Rattle.rules.specs.declared.Found.{Found}
 use Rattle.rules.specs.declared.Found.the-variants as lookup
 use Rattle.rules.specs.declared.Cause.the-variants.{NoSlot, FreeSlot, OtherGeneration}
-use Rattle.rules.specs.declared.Refusal.the-variants.{Shape, Unsound, Dead, SameClass, NoElement, NoShared, Short, Malformed, Nothing, Sealed, OutOfRange}
+use Rattle.rules.specs.declared.Refusal.the-variants.{Shape, Unsound, Dead, SameClass, NoElement, NoShared, Short, Malformed, NoFile, Version, Nothing, Sealed, OutOfRange}
 use Rattle.rules.specs.Tables.{State}
 use Rattle.rules.specs.Refusals.{numberOf, causeNumber, valuesOf}
-use Rattle.rules.specs.Calls.{Call, lenSurject, inSameSurject, getElement, getShared, getSize, getTotal, lookup, setElement, setShared, check, newRun, insert, union, remove, removeShared, list, drain, seal, drainAll, clear, undo, exchange, compress, compressWith}
+use Rattle.rules.specs.Calls.{Call, lenSurject, inSameSurject, getElement, getShared, getSize, getTotal, lookup, setElement, setShared, check, newRun, insert, union, remove, removeShared, list, drain, seal, drainAll, clear, undo, exchange, compress, compressWith, writeFile}
 use Rattle.rules.specs.Exact.{Asks, asks, Why, sooner, Because, Sentence, earlier, Given, Accepted}
 use Rattle.rules.proofs.Cases.{rules, key, pool, at, e, s, m}
 use Rattle.rules.proofs.Worked.{three, four, joined, goesOn, single}
@@ -38,7 +38,7 @@ abbrev b : Key
 b = key 1 1
 
 pub asked : map (asks goesOn) (lenSurject a ∷ inSameSurject a b ∷ getElement a ∷ getShared a ∷ getSize a ∷ getTotal a ∷ lookup a ∷ setElement a 9 ∷ setShared a 9 ∷ check ∷ newRun 9 9 0 ∷ insert a 9 0 ∷ union a b ∷ remove a ∷ removeShared a ∷ list a ∷ drain a ∷ seal a ∷ clear ∷ undo ∷ exchange (a ∷ b ∷ []) (9 ∷ 9 ∷ []) ∷ drainAll ∷ [])
-    ++ map (asks single) (compress true ∷ compressWith true ∷ [])
+    ++ map (asks single) (compress true ∷ compressWith true ∷ []) ++ asks four writeFile ∷ []
     ≡ want (a ∷ []) false false false false 0
     ∷ want (a ∷ b ∷ []) false false false false 0
     ∷ want (a ∷ []) false false false false 0
@@ -63,6 +63,7 @@ pub asked : map (asks goesOn) (lenSurject a ∷ inSameSurject a b ∷ getElement
     ∷ want [] false false false false 18
     ∷ want [] false false false false 24
     ∷ want [] false false false false 4
+    ∷ want [] false false false false 112
     ∷ []
 unfolding rules
 asked = refl
@@ -74,7 +75,7 @@ n number = number ∷ []
 abbrev d : ℕ → List ℕ
 d cause = 3 ∷ cause ∷ []
 
-pub order : map (λ r. map (λ q. numberOf q ∷ valuesOf q []) (earlier r)) (Shape ∷ Unsound ∷ Nothing ∷ Dead FreeSlot ∷ SameClass ∷ Sealed ∷ NoShared ∷ NoElement ∷ Short ∷ Malformed ∷ OutOfRange ∷ [])
+pub order : map (λ r. map (λ q. numberOf q ∷ valuesOf q []) (earlier r)) (Shape ∷ Unsound ∷ Nothing ∷ Dead FreeSlot ∷ SameClass ∷ Sealed ∷ NoShared ∷ NoElement ∷ Short ∷ Malformed ∷ NoFile ∷ Version ∷ OutOfRange ∷ [])
     ≡ []
     ∷ (n 1 ∷ [])
     ∷ (n 1 ∷ n 2 ∷ [])
@@ -84,6 +85,8 @@ pub order : map (λ r. map (λ q. numberOf q ∷ valuesOf q []) (earlier r)) (Sh
     ∷ (n 1 ∷ n 2 ∷ n 10 ∷ d 1 ∷ d 2 ∷ d 3 ∷ n 4 ∷ n 12 ∷ [])
     ∷ (n 1 ∷ n 2 ∷ n 10 ∷ d 1 ∷ d 2 ∷ d 3 ∷ n 4 ∷ n 12 ∷ n 6 ∷ [])
     ∷ (n 1 ∷ n 2 ∷ n 10 ∷ d 1 ∷ d 2 ∷ d 3 ∷ n 4 ∷ n 12 ∷ n 6 ∷ n 5 ∷ [])
+    ∷ []
+    ∷ []
     ∷ []
     ∷ []
     ∷ []
@@ -232,6 +235,10 @@ nothing-to-undo = ((tt, refl), (λ h. let z : _≡_ {A = ℕ} 1 0 = ap (λ (m : 
 
 pub malformed : Sentence three [] nothing Malformed → ⊥
 malformed n = n
+
+-- Ticket 11: 9 and 11 are the reader's
+pub no-file : (Sentence three [] nothing NoFile → ⊥) × (Sentence three [] nothing Version → ⊥)
+no-file = ((λ n. n), λ n. n)
 
 pub out-of-range : Sentence three [] nothing OutOfRange → ⊥
 out-of-range n = n

@@ -2,7 +2,7 @@
 use Prim.Native.Nat.{ℕ, zero, suc, _+_, _≤_}
 use mathlib.Core.Path.{_≡_, refl, sym, ap, _∙_, subst}
 use mathlib.Core.Bool.{Bool, true, false, true≢false}
-use mathlib.Core.List.{List, [], _∷_}
+use mathlib.Core.List.{List, [], _∷_, _++_}
 use native.Mathlib.Omega.{arith}
 use lib.ListN.{replicate}
 use Rattle.rules.specs.declared.Key.{Key}
@@ -15,11 +15,13 @@ use Rattle.rules.specs.Refusals.{Outcome}
 use Rattle.rules.specs.Slots.{empty, raised}
 use Rattle.rules.specs.Calls.{Call, newRun, remove, drainAll, clear, compress, compressWith, step, freshStep}
 use Rattle.rules.specs.Copy.{cloneStep}
+use Rattle.rules.specs.ReadFile.{readStep}
 use Rattle.rules.specs.Demand.{Sequence, fromFresh, andThen}
 use Rattle.rules.specs.Stale.{Ends, answer, Quietly, call, Since, given, begun, Later, now, later, TakenOut, taken, cleared}
 use Rattle.rules.proofs.Cases.{rules, key}
 use Rattle.rules.proofs.Worked.{fresh43}
 use Rattle.rules.proofs.CasesCopied.{copies}
+use Rattle.rules.proofs.CasesFile.{files, u4}
 use Rattle.rules.proofs.laws.Tests.{eq-is, is-false}
 use Rattle.rules.proofs.laws.DemandThree.{goes-on}
 use Rattle.rules.proofs.laws.Marks.{rises}
@@ -144,6 +146,11 @@ by-fresh = back _ false 2 at-once (refl, refl)
 pub by-copy : BroughtBack (λ st. let o = cloneStep st (empty 1 1 1) in record { said = o .said; state = o .target; lent = [] }) false
 unfolding rules copies
 by-copy = back _ false 2 at-once (refl, refl)
+
+-- Ticket 11: so is an accepted read, here of a file without runs
+pub by-read : BroughtBack (λ st. readStep st (u4 1 ++ u4 0)) false
+unfolding rules files
+by-read = back _ false 2 at-once (refl, refl)
 
 -- the clear's answer says overflow
 pub by-overflow : BroughtBack (λ st. step st [] clear) true

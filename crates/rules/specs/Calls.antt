@@ -16,8 +16,9 @@ use Rattle.rules.specs.Drains
 use Rattle.rules.specs.Seals
 use Rattle.rules.specs.Exchange
 use Rattle.rules.specs.Compress
+use Rattle.rules.specs.WriteFile
 
--- Rules 1 and 4 to 14, and Tickets 1, 3, 5 and 6
+-- Rules 1 and 4 to 14, and Tickets 1, 3, 5, 6, 7 and 11
 pub data Call : Type 0 where
   lenSurject getElement getShared getSize getTotal lookup remove removeShared list drain seal : Key → Call
   inSameSurject union : (j k : Key) → Call
@@ -27,7 +28,7 @@ pub data Call : Type 0 where
   exchange : List Key → (values : List ℕ) → Call
   newRun : (payload value size : ℕ) → Call
   compress compressWith : (reset : Bool) → Call
-  check drainAll clear undo : Call
+  check drainAll clear undo writeFile : Call
 
 abbrev pub ruling : State → (lent : List ℕ) → Call → Ruling
 ruling st lent (lenSurject k) = Reads.lenSurject st k
@@ -54,6 +55,7 @@ ruling st lent undo = Undo.undo st
 ruling st lent (exchange keys values) = Exchange.exchange st keys values
 ruling st lent (compress reset) = Compress.compress st lent reset
 ruling st lent (compressWith reset) = Compress.compressWith st lent reset
+ruling st lent writeFile = WriteFile.writeFile 1 st lent
 
 -- Tables, last: the inner door, which rests on soundness; and what that is
 pub record Ready (st : State) : Type 0 where

@@ -1,5 +1,5 @@
 -- Numbers given on refusal, once more and apart from the rules: the sentence of each number over any call. The rules give it exactly then (proofs/Exactly).
-use Prim.Native.Nat.{ℕ, _*_, _≤_, _<_}
+use Prim.Native.Nat.{ℕ, _+_, _*_, _≤_, _<_}
 use mathlib.Core.Path.{_≡_}
 use mathlib.Core.Logic.{_≢_, _⊎_}
 use mathlib.Core.Bool.{Bool, true, false}
@@ -11,14 +11,14 @@ use Rattle.rules.specs.declared.Key.{Key}
 use Rattle.rules.specs.declared.Cause.{Cause}
 use Rattle.rules.specs.declared.Cause.the-variants.{NoSlot, FreeSlot, OtherGeneration}
 use Rattle.rules.specs.declared.Refusal.{Refusal}
-use Rattle.rules.specs.declared.Refusal.the-variants.{Shape, Unsound, Dead, SameClass, NoElement, NoShared, Short, Malformed, Nothing, Sealed, OutOfRange}
+use Rattle.rules.specs.declared.Refusal.the-variants.{Shape, Unsound, Dead, SameClass, NoElement, NoShared, Short, Malformed, NoFile, Nothing, Version, Sealed, OutOfRange}
 use Rattle.rules.specs.Tables.{frameWidth, generationOf, classOf, State, blank, Side, isFree, LiveKey, sizeAt, isSealed}
 use Rattle.rules.specs.Undo.{Whole}
 use Rattle.rules.specs.Refusals.{shaped}
 use Rattle.rules.specs.Drains.{keyWidth, recordWidth}
 use Rattle.rules.specs.Seals.{sealWidth}
 use Rattle.rules.specs.Compress.{pairWidth}
-use Rattle.rules.specs.Calls.{Call, lenSurject, inSameSurject, getElement, getShared, getSize, getTotal, lookup, setElement, setShared, check, newRun, insert, union, remove, removeShared, list, drain, seal, drainAll, clear, undo, exchange, compress, compressWith}
+use Rattle.rules.specs.Calls.{Call, lenSurject, inSameSurject, getElement, getShared, getSize, getTotal, lookup, setElement, setShared, check, newRun, insert, union, remove, removeShared, list, drain, seal, drainAll, clear, undo, exchange, compress, compressWith, writeFile}
 
 -- one of these, two of these, none of these
 abbrev pub Some : {A : Type 0} → (A → Type 0) → List A → Type 0
@@ -69,7 +69,7 @@ writing keys numbers = record { back = false; keys = keys; apart = false; unseal
 abbrev pub sealing : List Key → (numbers : ℕ) → Asks
 sealing keys numbers = record { back = false; keys = keys; apart = false; unsealed = true; shared = false; element = false; numbers = numbers }
 
--- Refusals, below the table: listing, draining and sealing need as many places as frames written, compression as many slots as the element capacity; Ticket 3: a pair for each frame
+-- Refusals, below the table: listing, draining and sealing need as many places as frames written, compression as many slots as the element capacity; Ticket 3: a pair for each frame; Ticket 11: 8 bytes, 28 for each run and 12 for each frame
 abbrev pub asks : State → Call → Asks
 asks st (lenSurject k) = onKeys (k ∷ [])
 asks st (inSameSurject j k) = onKeys (j ∷ k ∷ [])
@@ -95,6 +95,7 @@ asks st undo = takingBack
 asks st (exchange keys values) = onKeysApart keys
 asks st (compress reset) = writing [] (st .head .elems .capacity * frameWidth)
 asks st (compressWith reset) = writing [] (st .head .elems .live * pairWidth)
+asks st writeFile = writing [] (8 + st .head .shared .live * 28 + st .head .elems .live * 12)
 
 -- Ticket 5: the sentence of each cause, and the causes tested before it
 abbrev pub Why : State → Key → Cause → Type 0
@@ -138,10 +139,12 @@ Sentence st lent a NoElement = T (a .element) × Full (st .head .elems)
 Sentence st lent a NoShared = T (a .shared) × Full (st .head .shared)
 Sentence st lent a Short = length lent < a .numbers
 Sentence st lent a Malformed = ⊥
+Sentence st lent a NoFile = ⊥
+Sentence st lent a Version = ⊥
 Sentence st lent a Sealed = T (a .unsealed) × Some (λ k. T (isSealed st (k .slot))) (a .keys)
 Sentence st lent a OutOfRange = ⊥
 
--- Refusals, order: 1, 2, 10 (Ticket 7), 3, 4, 12 (Ticket 1), 6, 5, 7; 8 is the script program's alone, and 13 the ceiling's (Ticket 9)
+-- Refusals, order: 1, 2, 10 (Ticket 7), 3, 4, 12 (Ticket 1), 6, 5, 7; 8 is the script program's alone, 9 and 11 are the reader's (Ticket 11), and 13 the ceiling's (Ticket 9)
 abbrev pub untilDead : List Refusal
 untilDead = Shape ∷ Unsound ∷ Nothing ∷ Dead NoSlot ∷ Dead FreeSlot ∷ Dead OtherGeneration ∷ []
 
@@ -156,6 +159,8 @@ earlier NoShared = untilDead ++ SameClass ∷ Sealed ∷ []
 earlier NoElement = untilDead ++ SameClass ∷ Sealed ∷ NoShared ∷ []
 earlier Short = untilDead ++ SameClass ∷ Sealed ∷ NoShared ∷ NoElement ∷ []
 earlier Malformed = []
+earlier NoFile = []
+earlier Version = []
 earlier OutOfRange = []
 
 -- a number's turn comes, if the sentence of no earlier number holds; and it is given, if its own then does

@@ -1,4 +1,4 @@
--- Ticket 7: what a call makes of what the head remembers. A read, a list, a lookup and the check leave it; union remembers itself; undo takes the union back; any other accepted call drops it.
+-- Ticket 7: what a call makes of what the head remembers. A read, a list, a lookup, the check and the writer leave it; union remembers itself; undo takes the union back; any other accepted call drops it.
 use Prim.Native.Nat.{ℕ, _≤_}
 use mathlib.Core.Path.{_≡_}
 use mathlib.Core.Logic.{_≢_}
@@ -8,7 +8,7 @@ use Rattle.rules.specs.Sound.{Frame}
 use Rattle.rules.specs.Refusals.{Ruling, refuse, accept}
 use Rattle.rules.specs.Runs.{joined, remembered}
 use Rattle.rules.specs.Undo.{takenBack}
-use Rattle.rules.specs.Calls.{Call, lenSurject, inSameSurject, getElement, getShared, getSize, getTotal, lookup, setElement, setShared, check, newRun, insert, union, remove, removeShared, list, drain, seal, drainAll, clear, undo, exchange, compress, compressWith, ruling, Ready}
+use Rattle.rules.specs.Calls.{Call, lenSurject, inSameSurject, getElement, getShared, getSize, getTotal, lookup, setElement, setShared, check, newRun, insert, union, remove, removeShared, list, drain, seal, drainAll, clear, undo, exchange, compress, compressWith, writeFile, ruling, Ready}
 
 pub data Effect : Type 0 where
   reads joins undoes drops : Effect
@@ -24,6 +24,7 @@ effect (getTotal k) = reads
 effect (lookup k) = reads
 effect (list k) = reads
 effect check = reads
+effect writeFile = reads
 effect (union j k) = joins
 effect undo = undoes
 effect (setElement k payload) = drops

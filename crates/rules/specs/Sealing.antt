@@ -5,12 +5,15 @@ use mathlib.Core.Logic.{_≢_}
 use mathlib.Core.List.{List, [], _∷_, map}
 use lib.ListN.{length, getD, drop}
 use Rattle.rules.specs.declared.Key.{Key}
+use Rattle.rules.specs.Notation.{if_then_else_, _==_}
 use Rattle.rules.specs.Tables.{State, LiveKey, markOf}
 use Rattle.rules.specs.Refusals.{Outcome}
 use Rattle.rules.specs.Seals.{sealWidth}
 use Rattle.rules.specs.Calls.{Call, seal, freshStep, AtDoor}
+use Rattle.rules.specs.Bytes.{Bytes}
+use Rattle.rules.specs.ReadFile.{readStep, runsOf}
 use Rattle.rules.specs.Renaming.{Compresses, canonical, kept}
-use Rattle.rules.specs.History.{History, answeredKey, runOf, byRun, bySlot, stillIn, noted, notedFresh}
+use Rattle.rules.specs.History.{History, answeredKey, runOf, byRun, bySlot, stillIn, noted, notedFresh, notedRead}
 use Rattle.rules.specs.Demand.{After, In, headerOf}
 
 -- the keys in the first places that a seal wrote
@@ -28,6 +31,9 @@ pub data Since (st : State) (h : History) (ks : List Key) : State → History �
   begin : Since st h ks st h ks
   fresh : {st′ : State} {h′ : History} {ks′ : List Key} → Since st h ks st′ h′ ks′ → (elems shared : ℕ)
       → Since st h ks (freshStep st′ elems shared .state) (notedFresh h′ (freshStep st′ elems shared .said)) (stillIn (notedFresh h′ (freshStep st′ elems shared .said) .runs) ks′)
+  -- Ticket 11: an accepted read puts other frames in
+  read : {st′ : State} {h′ : History} {ks′ : List Key} → Since st h ks st′ h′ ks′ → (file : List ℕ) → Bytes file
+      → Since st h ks (readStep st′ file .state) (notedRead h′ (runsOf file) (readStep st′ file .said)) (if readStep st′ file .said .number == 0 then [] else ks′)
   -- any call but an accepted compression
   call : {st′ : State} {h′ : History} {ks′ : List Key} → Since st h ks st′ h′ ks′ → (lent : List ℕ) (c : Call) (o : Outcome) → AtDoor st′ lent c o
       → (Compresses c → o .said .number ≢ 0) → Since st h ks (o .state) (noted h′ c (o .said)) (stillIn (noted h′ c (o .said) .runs) ks′)

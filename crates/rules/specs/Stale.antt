@@ -1,6 +1,7 @@
 -- Ticket 8: a removed frame's key stays dead, over any sequence of calls from fresh tables.
 use Prim.Native.Nat.{ℕ, _≤_}
 use mathlib.Core.Path.{_≡_}
+use mathlib.Core.Logic.{_≢_}
 use mathlib.Core.Bool.{true}
 use mathlib.Core.List.{List}
 use lib.ListN.{getD}
@@ -14,7 +15,9 @@ use Rattle.rules.specs.Calls.{Call, newRun, insert, remove, removeShared
 use Rattle.rules.specs.Renaming.{Compresses}
 use Rattle.rules.specs.TwoTables.{TwoOutcome}
 use Rattle.rules.specs.Copy.{AtCopy}
-use Rattle.rules.specs.Demand.{Sequence, andThen, copiedTo, headerOf}
+use Rattle.rules.specs.Bytes.{Bytes}
+use Rattle.rules.specs.ReadFile.{readStep}
+use Rattle.rules.specs.Demand.{Sequence, andThen, fromRead, andRead, copiedTo, headerOf}
 
 -- Rules 10 and 11: the overflow mark of the `i`th record that a drain wrote (docs/LAYOUT.md); it wrote as many as it answered
 abbrev pub overMark : Outcome → (i : ℕ) → ℕ
@@ -23,7 +26,7 @@ overMark o i = cell recordWidth (o .lent) 5 i
 abbrev pub Written : Outcome → (i : ℕ) → Type 0
 Written o i = (1 ≤ i) × (i ≤ getD (o .said .values) 0 0)
 
--- what ends the premise, in a call from the state `st` with the outcome `o`; and so does any fresh call
+-- what ends the premise, in a call from the state `st` with the outcome `o`; and so does any fresh call, and any accepted read (Ticket 11)
 pub data Ends (st : State) (o : Outcome) : Call → Type 0 where
   -- an answer said overflow; a drain says it on the record concerned
   answer : {c : Call} → o .said .over ≡ true → Ends st o c
@@ -38,8 +41,15 @@ pub data Ends (st : State) (o : Outcome) : Call → Type 0 where
 -- a call more, refused or not, that does not end the premise
 pub data Quietly (s : Sequence) : Sequence → Type 0 where
   call : (lent : List ℕ) (c : Call) (o : Outcome) (d : AtDoor (s .state) lent c o) → (Ends (s .state) o c → ⊥) → Quietly s (andThen s lent c o d)
+  -- Ticket 11: a read that is refused
+  unread : (file : List ℕ) (b : Bytes file) → readStep (s .state) file .said .number ≢ 0 → Quietly s (andRead s file b)
   -- Ticket 10: for a copied key the premise reaches back into the source, and goes on with the target's calls from the copy on; for what the target held before, no sequence goes on
   copied : (target : State) (o : TwoOutcome) (d : AtCopy target (s .state) o) (e : o .said .number ≡ 0) → Quietly s (copiedTo s target o d e)
+
+-- Ticket 11: an accepted read, the first call of all or a later one, is a fresh call that puts its frames in
+pub data ReadIn : Sequence → Type 0 where
+  first : (st : State) (file : List ℕ) (b : Bytes file) (e : readStep st file .said .number ≡ 0) → ReadIn (fromRead st file b e)
+  next : (s : Sequence) (file : List ℕ) (b : Bytes file) → readStep (s .state) file .said .number ≡ 0 → ReadIn (andRead s file b)
 
 -- the accepted call in which a frame got the key `k`: it answered it; a compression gives every frame a new one, answered or not
 pub data Gives (o : Outcome) (k : Key) : Call → Type 0 where
@@ -50,6 +60,7 @@ pub data Gives (o : Outcome) (k : Key) : Call → Type 0 where
 -- a sequence in which a frame got the key `k`, and since then the premise held
 pub data Since (k : Key) : Sequence → Type 0 where
   given : (s : Sequence) (lent : List ℕ) (c : Call) (o : Outcome) (d : AtDoor (s .state) lent c o) → o .said .number ≡ 0 → Gives o k c → Since k (andThen s lent c o d)
+  filed : {s : Sequence} → ReadIn s → LiveKey (s .state) k → Since k s
   since : {s s′ : Sequence} → Since k s → Quietly s s′ → Since k s′
 
 -- the same sequence, or with more calls, the premise holding

@@ -255,7 +255,7 @@ pub enum Cause {
     OtherGeneration,
 }
 
-// Numbers given on refusal, 1 to 8 in this order, 10, 12 and 13; 3 carries its cause.
+// Numbers given on refusal, 1 to 13 in this order; 3 carries its cause.
 pub enum Refusal {
     Shape,
     Unsound,
@@ -265,7 +265,9 @@ pub enum Refusal {
     NoShared,
     Short,
     Malformed,
+    NoFile,
     Nothing,
+    Version,
     Sealed,
     OutOfRange,
 }

@@ -9,7 +9,7 @@ use mathlib.Core.Bool.{Bool}
 use mathlib.Core.List.{List, [], _∷_, _++_}
 use Rattle.rules.specs.declared.Cause.the-variants.{NoSlot, FreeSlot, OtherGeneration}
 use Rattle.rules.specs.declared.Refusal.{Refusal}
-use Rattle.rules.specs.declared.Refusal.the-variants.{Shape, Unsound, Dead, SameClass, NoElement, NoShared, Short, Malformed, Nothing, Sealed, OutOfRange}
+use Rattle.rules.specs.declared.Refusal.the-variants.{Shape, Unsound, Dead, SameClass, NoElement, NoShared, Short, Malformed, NoFile, Nothing, Version, Sealed, OutOfRange}
 use Rattle.rules.specs.Refusals.{Outcome, numberOf, valuesOf}
 use Rattle.rules.specs.Answers.{saidBeside}
 use Rattle.rules.specs.Script.{bytes, decimal, causeText, refusedText}
@@ -24,7 +24,9 @@ text-refused print NoElement over lent = refl
 text-refused print NoShared over lent = refl
 text-refused print Short over lent = refl
 text-refused print Malformed over lent = refl
+text-refused print NoFile over lent = refl
 text-refused print Nothing over lent = refl
+text-refused print Version over lent = refl
 text-refused print Sealed over lent = refl
 text-refused print OutOfRange over lent = refl
 
@@ -39,7 +41,9 @@ two-digits NoElement = lit≤ tt
 two-digits NoShared = lit≤ tt
 two-digits Short = lit≤ tt
 two-digits Malformed = lit≤ tt
+two-digits NoFile = lit≤ tt
 two-digits Nothing = lit≤ tt
+two-digits Version = lit≤ tt
 two-digits Sealed = lit≤ tt
 two-digits OutOfRange = lit≤ tt
 
@@ -54,7 +58,9 @@ one-cause NoElement = refl
 one-cause NoShared = refl
 one-cause Short = refl
 one-cause Malformed = refl
+one-cause NoFile = refl
 one-cause Nothing = refl
+one-cause Version = refl
 one-cause Sealed = refl
 one-cause OutOfRange = refl
 

@@ -1,6 +1,6 @@
 use mathlib.Core.Path.{sym}
 use Rattle.rules.proofs.laws.Pools.{if-eq, if-ne}
-use Rattle.rules.proofs.laws.Blocks.{afterIn}
+use Rattle.rules.specs.ReadFile.{afterIn}
 use borrow.Author.Needs.{needs}
 use Rattle.copies.proofs.after.Statement.{statement}
 use Rattle.copies.proofs.after.Tie as tie

@@ -1,6 +1,6 @@
 use mathlib.Core.Path.{sym}
 use Rattle.rules.proofs.laws.Pools.{if-eq, if-ne}
-use Rattle.rules.proofs.laws.Blocks.{beforeIn}
+use Rattle.rules.specs.ReadFile.{beforeIn}
 use borrow.Author.Needs.{needs}
 use Rattle.copies.proofs.before.Statement.{statement}
 use Rattle.copies.proofs.before.Tie as tie

@@ -6,6 +6,7 @@ use mathlib.Core.List.{List, map}
 use Prim.Native.Nat.{ℕ, _*_}
 use native.Mathlib.Omega.{arith}
 use native.Mathlib.Decide.{ℕ-discrete}
+use lib.ListN.{length}
 use Rattle.rules.specs.declared.Key.{Key}
 use Rattle.rules.specs.declared.Memory.{Memory}
 use Rattle.rules.specs.Notation.{if_then_else_, _==_, _<?_}
@@ -26,7 +27,9 @@ use Rattle.rules.specs.Exchange
 use Rattle.rules.specs.Exchange.{allDiffer, valued}
 use Rattle.rules.specs.Compress
 use Rattle.rules.specs.Compress.{pairWidth}
-use Rattle.rules.specs.Calls.{Call, lenSurject, inSameSurject, getElement, getShared, getSize, getTotal, lookup, setElement, setShared, check, newRun, insert, union, remove, removeShared, list, drain, seal, drainAll, clear, undo, exchange, compress, compressWith, ruling, Ready}
+use Rattle.rules.specs.WriteFile
+use Rattle.rules.specs.WriteFile.{bytesIn}
+use Rattle.rules.specs.Calls.{Call, lenSurject, inSameSurject, getElement, getShared, getSize, getTotal, lookup, setElement, setShared, check, newRun, insert, union, remove, removeShared, list, drain, seal, drainAll, clear, undo, exchange, compress, compressWith, writeFile, ruling, Ready}
 use Rattle.rules.specs.Renaming.{Compresses, canonical, kept}
 use Rattle.rules.proofs.laws.Columns.{cell-zeros, cols, upd-same, upd-other}
 use Rattle.rules.proofs.laws.Working.{View, view}
@@ -107,7 +110,7 @@ module _ (st : State) (R : Ready st) (M : Remembers st) where
   set-closed x payload h = let e = elementSet-view st R x payload h in closed-same (view st) (view (elementSet st x payload)) (ap (λ (v : View). v .gen) e) (ap (λ (v : View). v .class) e) (ap (λ (v : View). v .mark) e)
 
   pub closes : (lent : List ℕ) (c : Call) → (Compresses c → outcome st lent (ruling st lent c) .said .number ≢ 0) → Closes st (ruling st lent c)
-  unfolding Reads.lenSurject Reads.inSameSurject Reads.getElement Reads.getShared Reads.getSize Reads.getTotal Reads.lookup Reads.setElement Reads.setShared Runs.newRun Runs.insert Runs.keeping Runs.union Runs.remove Drains.removeShared Drains.list Drains.drain Drains.drainAll Drains.clear Drains.cleared Seals.seal Undo.undo Exchange.exchange Compress.compress Compress.compressWith
+  unfolding Reads.lenSurject Reads.inSameSurject Reads.getElement Reads.getShared Reads.getSize Reads.getTotal Reads.lookup Reads.setElement Reads.setShared Runs.newRun Runs.insert Runs.keeping Runs.union Runs.remove Drains.removeShared Drains.list Drains.drain Drains.drainAll Drains.clear Drains.cleared Seals.seal Undo.undo Exchange.exchange Compress.compress Compress.compressWith WriteFile.writeFile
   closes lent (lenSurject k) n = on-live k _ (λ h. same)
   closes lent (inSameSurject j k) n = on-live j _ (λ h. on-live k _ (λ l. same))
   closes lent (getElement k) n = on-live k _ (λ h. same)
@@ -118,6 +121,7 @@ module _ (st : State) (R : Ready st) (M : Remembers st) where
   closes lent (setElement k payload) n = on-live k _ (λ h. closed-memory (view st) _ blank (set-closed (k .slot) payload h))
   closes lent (setShared k value) n = on-live k _ (λ h. closed-same (view st) _ refl refl (search cols))
   closes lent check n = same
+  closes lent writeFile n = either (length lent <? length (bytesIn 1 st)) _ _ (λ e. tt) (λ e. same)
   closes lent (newRun payload value size) n =
       either (isFull (st .head .shared)) _ _ (λ e. tt) (λ e.
       either (isFull (st .head .elems)) _ _ (λ f. tt) (λ f. steady _ (begun-steady st R payload value (sized size) (room (working st R .elems) f) (room (working st R .shared) e))))

@@ -2,17 +2,18 @@
 use mathlib.Core.Path.{_≡_, refl, sym, ap, _∙_, subst}
 use mathlib.Core.Logic.{_≢_}
 use mathlib.Core.Bool.{Bool, true, false, _&&_, _||_}
-use mathlib.Core.List.{List, [], _∷_, map}
-use Prim.Native.Nat.{ℕ, suc, _≤_, _<_}
+use mathlib.Core.List.{List, [], _∷_, map, append-nil}
+use Prim.Native.Nat.{ℕ, zero, suc, _≤_, _<_}
 use native.Mathlib.Omega.{arith}
 use native.Mathlib.Decide.{ℕ-discrete}
 use lib.Dec.{T}
+use lib.ListN.{length}
 use Rattle.rules.specs.declared.Key.{Key}
 use Rattle.rules.specs.declared.Cause.{Cause}
 use Rattle.rules.specs.declared.Cause.the-variants.{NoSlot, FreeSlot, OtherGeneration}
 use Rattle.rules.specs.declared.Found.the-variants as lookup
 use Rattle.rules.specs.declared.Refusal.the-variants.{Short}
-use Rattle.rules.specs.Notation.{if_then_else_, _==_, _≤?_, _<?_, along, flat}
+use Rattle.rules.specs.Notation.{if_then_else_, _==_, _≤?_, _<?_, along, upTo, flat, keep, every}
 use Rattle.rules.specs.Tables
 use Rattle.rules.specs.Tables.{generationOf, classOf, valueOf, totalOf, State, elemSide, sharedSide, isLive, isFree, cause, found, keyAt, sizeAt}
 use Rattle.rules.specs.Refusals.{Ruling, refuse, accept, answer, Outcome, outcome, whenLive, withLive}
@@ -20,13 +21,20 @@ use Rattle.rules.specs.Runs.{keyValues}
 use Rattle.rules.specs.Reads
 use Rattle.rules.specs.Drains
 use Rattle.rules.specs.Drains.{ring, isShort, keyWidth}
-use Rattle.rules.specs.Calls.{Call, lenSurject, inSameSurject, getElement, getShared, getSize, getTotal, lookup, setElement, setShared, check, newRun, insert, union, remove, removeShared, list, drain, seal, drainAll, clear, undo, exchange, compress, compressWith, Ready, Is, step}
+use Rattle.rules.specs.WriteFile
+use Rattle.rules.specs.WriteFile.{frameIn, runIn, runsIn, bytesIn}
+use Rattle.rules.specs.RunFile.{StoredRun, file}
+use Rattle.rules.specs.Compress.{isLowest, lowestSlots}
+use Rattle.rules.specs.Calls.{Call, lenSurject, inSameSurject, getElement, getShared, getSize, getTotal, lookup, setElement, setShared, check, newRun, insert, union, remove, removeShared, list, drain, seal, drainAll, clear, undo, exchange, compress, compressWith, writeFile, Ready, Is, step}
 use Rattle.rules.specs.Keeping.{Effect, reads, joins, undoes, drops, effect}
-use Rattle.rules.specs.Copy.{lastLive, copiedPool, copied}
+use Rattle.rules.specs.Copy.{lastTo, lastLive, copiedPool, copied}
 use Rattle.rules.specs.Copying.{Alike}
 use Rattle.rules.proofs.laws.Tests.{le-is, is-true, is-false}
 use Rattle.rules.proofs.laws.Sides.{and-T, live-of}
 use Rattle.rules.proofs.laws.Working.{View, view, Working}
+use Rattle.rules.proofs.laws.Lists.{All, all-map}
+use Rattle.rules.proofs.laws.Order.{lowestTo, lowest-more, round}
+use Rattle.rules.proofs.laws.Blocks.{lowest-live}
 use Rattle.rules.proofs.laws.Rep
 use Rattle.rules.proofs.laws.Good
 use Rattle.rules.proofs.laws.Renumber.{Renumbered, renumbered-size, renumbered-along}
@@ -107,6 +115,55 @@ module _ (a b : ℕ) (st : State) (W : Working (view st)) (M : Roomy a b st) whe
   ring-same : (x : ℕ) → view st .gen x ≢ 0 → ring (copied a b st) x ≡ ring st x
   ring-same x h = ap (λ (n : ℕ). along (view st′ .next) n x) (size-same x h) ∙ renumbered-along (view st) (view st′) itself N W (sizeAt st x) x h ∙ map-same (λ s. s) (λ s. refl) (ring st x)
 
+  -- the same slots are the lowest of their rings
+  same-lowest : (x : ℕ) → isLowest (copied a b st) x ≡ isLowest st x
+  unfolding isLowest
+  same-lowest x = rw (same-live x) (go (isLive (elemSide st) x) (λ t. ring-same x (live-of (elemSide st) x t .used)))
+    where
+      go : (l : Bool) → (T l → ring st′ x ≡ ring st x) → (l && every (λ y. x ≤? y) (ring st′ x)) ≡ (l && every (λ y. x ≤? y) (ring st x))
+      go true f = ap (every (λ y. x ≤? y)) (f tt)
+      go false f = refl
+
+  -- past the last live slot there is none
+  lowest-past : (k : ℕ) → lowestTo st (lastTo (elemSide st) k) ≡ lowestTo st k
+  unfolding lastTo isLowest
+  lowest-past zero = refl
+  lowest-past (suc k) = go (isLive (elemSide st) (suc k)) refl (lowest-past k)
+    where
+      none : isLive (elemSide st) (suc k) ≡ false → isLowest st (suc k) ≡ false
+      none e = rw e
+
+      go : (l : Bool) → isLive (elemSide st) (suc k) ≡ l → lowestTo st (lastTo (elemSide st) k) ≡ lowestTo st k → lowestTo st (if l then suc k else lastTo (elemSide st) k) ≡ lowestTo st (suc k)
+      go true e q = refl
+      go false e q = q ∙ sym (lowest-more st k false (none e) ∙ append-nil (lowestTo st k))
+
+  keep-same : (xs : List ℕ) → keep (isLowest st′) xs ≡ keep (isLowest st) xs
+  keep-same [] = refl
+  keep-same (x ∷ xs) = rw (same-lowest x, keep-same xs)
+
+  lowest-same : lowestSlots (copied a b st) ≡ lowestSlots st
+  unfolding lowestSlots copiedPool
+  lowest-same = keep-same (upTo (lastLive (elemSide st))) ∙ lowest-past (st .head .elems .extent)
+
+  -- so the runs are the same, as a file has them
+  frames-same : (xs : List ℕ) → All (λ x. view st .gen x ≢ 0) xs → map (frameIn st′) xs ≡ map (frameIn st) xs
+  frames-same [] h = refl
+  frames-same (x ∷ xs) h = rw (N .payloads x (h .0), N .sizes x (h .0), frames-same xs (h .1))
+
+  run-same : (x : ℕ) → view st .gen x ≢ 0 → runIn (copied a b st) x ≡ runIn st x
+  run-same x h =
+      let v : valueOf (st′ .shared) (classOf (st′ .elems) x) ≡ valueOf (st .shared) (classOf (st .elems) x) = ap (valueOf (st′ .shared)) (N .classes x h) ∙ N .values (classOf (st .elems) x) (W .class-live x h) in
+      let f : map (frameIn st′) (ring st′ x) ≡ map (frameIn st) (ring st x) = ap (map (frameIn st′)) (ring-same x h) ∙ frames-same (ring st x) (all-map (λ s m. m .live) (ring st x) (round st W x h .frames)) in
+      λ i. record { value = v i; frames = f i }
+
+  runs-same : runsIn (copied a b st) ≡ runsIn st
+  unfolding runsIn
+  runs-same = ap (map (runIn st′)) lowest-same ∙ go (lowestSlots st) (lowest-live st W)
+    where
+      go : (xs : List ℕ) → All (λ x. view st .gen x ≢ 0) xs → map (runIn st′) xs ≡ map (runIn st) xs
+      go [] h = refl
+      go (x ∷ xs) h = rw (run-same x (h .0), go xs (h .1))
+
   module _ (lent : List ℕ) where
     on-key : (k : Key) (rule rule′ : ℕ → Ruling) → ((x : ℕ) → view st .gen x ≢ 0 → Alike (outcome st′ lent (rule′ x)) (outcome st lent (rule x))) → Alike (outcome st′ lent (withLive st′ k rule′)) (outcome st lent (withLive st k rule))
     unfolding found
@@ -132,7 +189,7 @@ module _ (a b : ℕ) (st : State) (W : Working (view st)) (M : Roomy a b st) whe
 
     -- each call, if it reads
     by-call : (c : Call) → OfReads (effect c) (Alike (step (copied a b st) lent c) (step st lent c))
-    unfolding Reads.lenSurject Reads.inSameSurject Reads.getElement Reads.getShared Reads.getSize Reads.getTotal Reads.lookup Drains.list
+    unfolding Reads.lenSurject Reads.inSameSurject Reads.getElement Reads.getShared Reads.getSize Reads.getTotal Reads.lookup Drains.list WriteFile.writeFile
     by-call (lenSurject k) = on-key k _ _ (λ x h. told _ _ (size-same x h))
     by-call (inSameSurject j k) = on-key j _ _ (λ x h. on-key k _ _ (λ y l. told _ _ (rw (N .classes x h, N .classes y l))))
     by-call (getElement k) = on-key k _ _ (λ x h. told _ _ (N .payloads x h))
@@ -141,6 +198,9 @@ module _ (a b : ℕ) (st : State) (W : Working (view st)) (M : Roomy a b st) whe
     by-call (getTotal k) = on-key k _ _ (λ x h. told _ _ (ap (totalOf (st′ .shared)) (N .classes x h) ∙ N .totals (classOf (st .elems) x) (W .class-live x h)))
     by-call (lookup k) = on-key k _ _ (λ x h. record { number = refl; said = λ _. refl; lent = refl })
     by-call (list k) = on-key k _ _ (λ x h. rw (ap (λ (n : ℕ). isShort lent n keyWidth) (size-same x h)) (listed (isShort lent (sizeAt st x) keyWidth) (sizeAt st x) (sizeAt st′ x) _ _ (size-same x h) (places-same x h)))
+    by-call writeFile =
+        let n : length (bytesIn 1 st′) ≡ length (bytesIn 1 st) = ap (λ (rs : List StoredRun). length (file 1 rs)) runs-same in
+        rw (ap (λ (n : ℕ). length lent <? n) n) (listed (length lent <? length (bytesIn 1 st)) (length (bytesIn 1 st)) (length (bytesIn 1 st′)) _ _ n (ap (file 1) runs-same))
     by-call check = record { number = refl; said = λ _. refl; lent = refl }
     by-call (union j k) = tt
     by-call (setElement k payload) = tt

@@ -2,25 +2,29 @@
 use mathlib.Core.Path.{_≡_, sym, ap, _∙_, subst, refl}
 use mathlib.Core.Logic.{_≢_, inl}
 use mathlib.Core.Bool.{true≢false}
-use mathlib.Core.List.{List}
-use Prim.Native.Nat.{ℕ, suc, _≤_, _<_}
+use mathlib.Core.List.{List, []}
+use Prim.Native.Nat.{ℕ, suc, _+_, _≤_, _<_}
 use native.Mathlib.Omega.{arith}
 use lib.ListN.{length}
 use Rattle.rules.specs.declared.Key.{Key}
 use Rattle.rules.specs.declared.Refusal.{Refusal}
-use Rattle.rules.specs.declared.Refusal.the-variants.{Shape, Unsound, Dead, SameClass, NoElement, NoShared, Short, Malformed, Sealed, Nothing, OutOfRange}
+use Rattle.rules.specs.declared.Refusal.the-variants.{Shape, Unsound, Dead, SameClass, NoElement, NoShared, Short, Malformed, NoFile, Version, Sealed, Nothing, OutOfRange}
 use Rattle.rules.specs.Notation.{_==_, _<?_}
 use Rattle.rules.specs.Tables.{classOf, State, sizeAt, isSealed}
-use Rattle.rules.specs.Refusals.{Ruling, refuse, Outcome, outcome, numberOf}
+use Rattle.rules.specs.Refusals.{Ruling, refuse, accept, Outcome, outcome, saidRefused, numberOf}
 use Rattle.rules.specs.Runs
 use Rattle.rules.specs.Calls.{Call, union, step, AtDoor}
+use Rattle.rules.specs.Bytes.{value, Bytes}
+use Rattle.rules.specs.RunFile.{StoredRun}
+use Rattle.rules.specs.ReadFile.{readTables, readFile, oldReader, readStep, runsOf}
 use Rattle.rules.specs.TwoTables.{TwoOutcome}
 use Rattle.rules.specs.Copy.{AtCopy}
-use Rattle.rules.specs.History.{History, runOf, othersOf, noted, begunWith}
-use Rattle.rules.specs.Demand.{After, start, fresh, call, copy, rewrites, Union, Demand3}
+use Rattle.rules.specs.History.{History, frames, runOf, othersOf, noted, nothing, begunWith, readInto, notedRead}
+use Rattle.rules.specs.Demand.{After, start, fresh, call, startRead, read, copy, rewrites, Union, Demand3}
 use Rattle.rules.proofs.Door
 use Rattle.rules.proofs.Exactly.{exactly-1, exactly-2}
 use Rattle.rules.proofs.laws.Tests.{eq-is, le-is, is-so, is-not}
+use Rattle.rules.proofs.laws.Pools.{if-ne}
 use Rattle.rules.proofs.laws.Working.{view}
 use Rattle.rules.proofs.laws.Rep.{LiveKey}
 use Rattle.rules.proofs.laws.Good.{Good, live-of, run-from, size-from, agrees}
@@ -30,9 +34,31 @@ use Rattle.rules.proofs.laws.Follows.{follows}
 use Rattle.rules.proofs.laws.Histories.Cleared.{good-start, good-fresh}
 use Rattle.rules.proofs.laws.Copying.{accepted-is, capacities}
 use Rattle.rules.proofs.laws.Histories.Copied.{good-copied}
+use Rattle.rules.proofs.laws.ReadSound.{readable}
+use Rattle.rules.proofs.laws.ReadRules.{accepted-read, runs-of}
+use Rattle.rules.proofs.laws.Histories.Read.{good-readTables}
 use Rattle.rules.proofs.laws.EveryCall.{call-follows}
 use Rattle.rules.proofs.laws.Recalls.{Recalls, remembers, call-recalls, start-recalls, fresh-recalls}
 use Rattle.rules.proofs.laws.UnionFrame.{third-frames, third-headers, rewrites-run}
+
+pub not-accepted : (r : Refusal) → numberOf r ≢ 0
+not-accepted Shape = omega arith
+not-accepted Unsound = omega arith
+not-accepted (Dead cause) = omega arith
+not-accepted SameClass = omega arith
+not-accepted NoElement = omega arith
+not-accepted NoShared = omega arith
+not-accepted Short = omega arith
+not-accepted Malformed = omega arith
+not-accepted NoFile = omega arith
+not-accepted Version = omega arith
+not-accepted Sealed = omega arith
+not-accepted Nothing = omega arith
+not-accepted OutOfRange = omega arith
+
+-- a refused read is not noted
+unread-notes : (h : History) (rs : List StoredRun) (r : Refusal) → notedRead h rs (saidRefused r) ≡ h
+unread-notes h rs r = if-ne (numberOf r) 0 (readInto h rs) h (not-accepted r)
 
 -- at the host's door a good state is met by the call's own rule
 pub at-door : {st : State} {h : History} → Good st h → Recalls st h → (lent : List ℕ) (c : Call) (o : Outcome) → AtDoor st lent c o → o ≡ step st lent c
@@ -49,11 +75,33 @@ good-copy {st} {h} G target o d e =
     subst (λ (q : State). Good q (begunWith h) × Recalls q (begunWith h)) (sym (A .copy))
     (good-copied (target .head .elems .capacity) (target .head .shared .capacity) st h G (capacities target (A .shape)) (A .room), inl refl)
 
+-- Ticket 11: a read, the first of all or a later one, accepted or refused; it leaves nothing to undo
+read-goes : (st : State) (h : History) (file : List ℕ) → Bytes file → readStep st file .said .number ≡ 0 → frames h + h .taken ≡ h .put
+    → Good (readStep st file .state) (readInto h (runsOf file)) × Recalls (readStep st file .state) (readInto h (runsOf file))
+unfolding readTables
+read-goes st h file b e c =
+    let A = accepted-read oldReader st file b e in
+    let rs = A .0 in
+    let R = readable (value 4 file) (st .head .elems .capacity) (st .head .shared .capacity) rs (A .1 .fits .runs) (A .1 .elems) (A .1 .shared) in
+    rw (A .1 .now, runs-of oldReader st file rs (A .1 .holds)) (good-readTables (st .head .elems .capacity) (st .head .shared .capacity) rs R h c (capacities st (A .1 .holds .first .shape)), inl refl)
+
+pub good-read : {st : State} {h : History} → Good st h → Recalls st h → (file : List ℕ) → Bytes file
+    → Good (readStep st file .state) (notedRead h (runsOf file) (readStep st file .said)) × Recalls (readStep st file .state) (notedRead h (runsOf file) (readStep st file .said))
+good-read {st} {h} G M file b = go (readFile oldReader st file) refl
+  where
+    go : (q : Ruling) → readFile oldReader st file ≡ q → Good (outcome st [] q .state) (notedRead h (runsOf file) (outcome st [] q .said)) × Recalls (outcome st [] q .state) (notedRead h (runsOf file) (outcome st [] q .said))
+    go (refuse r) e = subst (λ (g : History). Good st g × Recalls st g) (sym (unread-notes h (runsOf file) r)) (G, M)
+    go (accept values over st′ places) e =
+        subst (λ (q : Ruling). Good (outcome st [] q .state) (readInto h (runsOf file)) × Recalls (outcome st [] q .state) (readInto h (runsOf file))) e
+        (read-goes st h file b (ap (λ (q : Ruling). outcome st [] q .said .number) e) (G .counts))
+
 -- whatever the calls were, the state is ready, holds the history, and can be taken back to it
 after-both : {st : State} {h : History} → After st h → Good st h × Recalls st h
 after-both (start st elems shared e) = (good-start st elems shared e, start-recalls st elems shared e)
 after-both (fresh {st = st} {h = h} a elems shared) = let r = after-both a in (good-fresh st elems shared h (r .0), fresh-recalls st elems shared h (r .1))
 after-both (call a lent c o d) = let r = after-both a in good-call (r .0) (r .1) lent c o d
+after-both (startRead st file b e) = read-goes st nothing file b e refl
+after-both (read a file b) = let r = after-both a in good-read (r .0) (r .1) file b
 after-both (copy a target o d e) = good-copy (after-both a .0) target o d e
 
 pub after-good : {st : State} {h : History} → After st h → Good st h
@@ -69,19 +117,6 @@ goes-on {st} {h} a lent c = passed st lent c (step st lent c) (after-good a .rea
 -- no call of such a sequence is refused 1 or 2
 passes : (st : State) (h : History) → Good st h → Recalls st h → (lent : List ℕ) (c : Call) (o : Outcome) → AtDoor st lent c o → (o .said .number ≢ 1) × (o .said .number ≢ 2)
 passes st h G M lent c o d = ((λ e. true≢false (sym (G .ready .shape) ∙ exactly-1 st lent c o d .0 e)), λ e. exactly-2 st lent c o d .0 e .1 (G .ready .sound, remembers st h M))
-
-pub not-accepted : (r : Refusal) → numberOf r ≢ 0
-not-accepted Shape = omega arith
-not-accepted Unsound = omega arith
-not-accepted (Dead cause) = omega arith
-not-accepted SameClass = omega arith
-not-accepted NoElement = omega arith
-not-accepted NoShared = omega arith
-not-accepted Short = omega arith
-not-accepted Malformed = omega arith
-not-accepted Sealed = omega arith
-not-accepted Nothing = omega arith
-not-accepted OutOfRange = omega arith
 
 module _ (st : State) (h : History) (G : Good st h) (j k : Key) (lent : List ℕ) where
   -- what is claimed of an accepted union

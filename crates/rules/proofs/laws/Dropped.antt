@@ -5,6 +5,7 @@ use mathlib.Core.Bool.{Bool, true, false}
 use mathlib.Core.List.{List, map}
 use Prim.Native.Nat.{ℕ, zero, suc, _≤_}
 use native.Mathlib.Omega.{arith}
+use lib.ListN.{length}
 use Rattle.rules.specs.declared.Key.{Key}
 use Rattle.rules.specs.Notation.{if_then_else_, _==_, _<?_}
 use Rattle.rules.specs.Tables.{frameWidth, blank, State, withUndo, elemSide, classOf, nextOf, sizeAt, isSealed}
@@ -26,7 +27,9 @@ use Rattle.rules.specs.Exchange.{allDiffer}
 use Rattle.rules.specs.Compress
 use Rattle.rules.specs.Compress.{pairWidth}
 use Rattle.rules.specs.Keeping.{Effect, reads, joins, undoes, drops, effect, Joins, Then, Accepted, Keeping}
-use Rattle.rules.specs.Calls.{Call, lenSurject, inSameSurject, getElement, getShared, getSize, getTotal, lookup, setElement, setShared, check, newRun, insert, union, remove, removeShared, list, drain, seal, drainAll, clear, undo, exchange, compress, compressWith, ruling, Ready, step}
+use Rattle.rules.specs.WriteFile
+use Rattle.rules.specs.WriteFile.{bytesIn}
+use Rattle.rules.specs.Calls.{Call, lenSurject, inSameSurject, getElement, getShared, getSize, getTotal, lookup, setElement, setShared, check, newRun, insert, union, remove, removeShared, list, drain, seal, drainAll, clear, undo, exchange, compress, compressWith, writeFile, ruling, Ready, step}
 use Rattle.rules.proofs.laws.Tests.{eq-is, le-is, is-not, is-so}
 use Rattle.rules.proofs.laws.Pools.{live-in}
 use Rattle.rules.proofs.laws.Sides.{live-of, live-to}
@@ -58,7 +61,7 @@ module _ (st : State) (R : Ready st) where
   frame x h = let i = live-in (working st R .elems) x h in live-to (elemSide st) x (record { low = i .0; high = i .1; used = h })
 
   pub memory-then : (lent : List ℕ) (c : Call) → Accepted (Then (effect c) st) (ruling st lent c)
-  unfolding Reads.lenSurject Reads.inSameSurject Reads.getElement Reads.getShared Reads.getSize Reads.getTotal Reads.lookup Reads.setElement Reads.setShared Runs.newRun Runs.begun Runs.insert Runs.inserted Runs.keeping Runs.union Runs.remove Runs.removed Drains.removeShared Drains.list Drains.drain Drains.drainAll Drains.clear Drains.cleared Seals.seal Seals.sealed Slots.empty Slots.raise Undo.undo Undo.takenBack Exchange.exchange Compress.compress Compress.compressWith Compress.renumberedIn
+  unfolding Reads.lenSurject Reads.inSameSurject Reads.getElement Reads.getShared Reads.getSize Reads.getTotal Reads.lookup Reads.setElement Reads.setShared Runs.newRun Runs.begun Runs.insert Runs.inserted Runs.keeping Runs.union Runs.remove Runs.removed Drains.removeShared Drains.list Drains.drain Drains.drainAll Drains.clear Drains.cleared Seals.seal Seals.sealed Slots.empty Slots.raise Undo.undo Undo.takenBack Exchange.exchange Compress.compress Compress.compressWith Compress.renumberedIn WriteFile.writeFile
   memory-then lent (lenSurject k) = on-live (Then reads st) k _ (λ h. refl)
   memory-then lent (inSameSurject j k) = on-live (Then reads st) j _ (λ h. on-live (Then reads st) k _ (λ l. refl))
   memory-then lent (getElement k) = on-live (Then reads st) k _ (λ h. refl)
@@ -68,6 +71,7 @@ module _ (st : State) (R : Ready st) where
   memory-then lent (lookup k) = on-live (Then reads st) k _ (λ h. refl)
   memory-then lent (list k) = on-live (Then reads st) k _ (λ h. either (Then reads st) (isShort lent (sizeAt st (k .slot)) keyWidth) _ _ (λ e. tt) (λ e. refl))
   memory-then lent check = refl
+  memory-then lent writeFile = either (Then reads st) (length lent <? length (bytesIn 1 st)) _ _ (λ e. tt) (λ e. refl)
   memory-then lent (union j k) =
       let x = j .slot in
       let y = k .slot in

@@ -3,6 +3,7 @@ use mathlib.Core.Path.{_≡_}
 use mathlib.Core.Logic.{_≢_}
 use mathlib.Core.List.{List, [], map}
 use Prim.Native.Nat.{ℕ}
+use lib.ListN.{length}
 use Rattle.rules.specs.declared.Key.{Key}
 use Rattle.rules.specs.Notation.{_==_, _<?_}
 use Rattle.rules.specs.Tables.{frameWidth, classOf, State, sizeAt, isSealed, blank}
@@ -18,7 +19,9 @@ use Rattle.rules.specs.Exchange
 use Rattle.rules.specs.Exchange.{allDiffer}
 use Rattle.rules.specs.Compress
 use Rattle.rules.specs.Compress.{pairWidth}
-use Rattle.rules.specs.Calls.{Call, lenSurject, inSameSurject, getElement, getShared, getSize, getTotal, lookup, setElement, setShared, check, newRun, insert, union, remove, removeShared, list, drain, seal, drainAll, clear, undo, exchange, compress, compressWith, ruling}
+use Rattle.rules.specs.WriteFile
+use Rattle.rules.specs.WriteFile.{bytesIn}
+use Rattle.rules.specs.Calls.{Call, lenSurject, inSameSurject, getElement, getShared, getSize, getTotal, lookup, setElement, setShared, check, newRun, insert, union, remove, removeShared, list, drain, seal, drainAll, clear, undo, exchange, compress, compressWith, writeFile, ruling}
 use Rattle.rules.specs.History.{History}
 use Rattle.rules.proofs.laws.Lists.{all-map, all-image}
 use Rattle.rules.proofs.laws.Tests.{eq-is, is-not}
@@ -66,7 +69,7 @@ module _ (st : State) (lent : List ℕ) (h : History) (G : Good st h) (M : Recal
       (λ e. refused))
 
   pub call-follows : (c : Call) → Follows h c (ruling st lent c)
-  unfolding Reads.lenSurject Reads.inSameSurject Reads.getElement Reads.getShared Reads.getSize Reads.getTotal Reads.lookup Reads.setElement Reads.setShared Runs.newRun Runs.insert Runs.remove Drains.removeShared Drains.list Drains.drain Drains.drainAll Drains.clear Seals.seal Compress.compress Compress.compressWith Undo.undo
+  unfolding Reads.lenSurject Reads.inSameSurject Reads.getElement Reads.getShared Reads.getSize Reads.getTotal Reads.lookup Reads.setElement Reads.setShared Runs.newRun Runs.insert Runs.remove Drains.removeShared Drains.list Drains.drain Drains.drainAll Drains.clear Seals.seal Compress.compress Compress.compressWith Undo.undo WriteFile.writeFile
   call-follows (lenSurject k) = on-live h (lenSurject k) st k _ (λ l. done G)
   call-follows (inSameSurject j k) = on-live h (inSameSurject j k) st j _ (λ i. on-live h (inSameSurject j k) st k _ (λ l. done G))
   call-follows (getElement k) = on-live h (getElement k) st k _ (λ l. done G)
@@ -77,6 +80,7 @@ module _ (st : State) (lent : List ℕ) (h : History) (G : Good st h) (M : Recal
   call-follows (setElement k payload) = on-live h (setElement k payload) st k _ (λ l. done (good-undo _ blank (good-setElement st h G (k .slot) payload (live-of st k l .live))))
   call-follows (setShared k value) = on-live h (setShared k value) st k _ (λ l. done (good-undo _ blank (good-setShared st h G (classOf (st .elems) (k .slot)) value (working st (G .ready) .class-live (k .slot) (live-of st k l .live)))))
   call-follows check = done G
+  call-follows writeFile = either h writeFile (length lent <? length (bytesIn 1 st)) _ _ (λ e. refused) (λ e. done G)
   call-follows (newRun payload value size) =
       either h (newRun payload value size) (isFull (st .head .shared)) _ _ (λ e. refused) (λ e.
       either h (newRun payload value size) (isFull (st .head .elems)) _ _ (λ f. refused) (λ f. done (good-newRun st h G payload value size f e)))

@@ -5,6 +5,7 @@ use mathlib.Core.Bool.{Bool, true, false}
 use mathlib.Core.List.{List, [], map}
 use Prim.Native.Nat.{ℕ, zero, suc, _+_, _≤_}
 use native.Mathlib.Omega.{arith}
+use lib.ListN.{length}
 use Rattle.rules.specs.declared.Pool.{Pool}
 use Rattle.rules.specs.declared.Key.{Key}
 use Rattle.rules.specs.Notation.{if_then_else_, _==_, _<?_}
@@ -25,7 +26,9 @@ use Rattle.rules.specs.Exchange
 use Rattle.rules.specs.Exchange.{allDiffer}
 use Rattle.rules.specs.Compress
 use Rattle.rules.specs.Compress.{pairWidth}
-use Rattle.rules.specs.Calls.{Call, lenSurject, inSameSurject, getElement, getShared, getSize, getTotal, lookup, setElement, setShared, check, newRun, insert, union, remove, removeShared, list, drain, seal, drainAll, clear, undo, exchange, compress, compressWith, ruling, step}
+use Rattle.rules.specs.WriteFile
+use Rattle.rules.specs.WriteFile.{bytesIn}
+use Rattle.rules.specs.Calls.{Call, lenSurject, inSameSurject, getElement, getShared, getSize, getTotal, lookup, setElement, setShared, check, newRun, insert, union, remove, removeShared, list, drain, seal, drainAll, clear, undo, exchange, compress, compressWith, writeFile, ruling, step}
 use Rattle.rules.proofs.laws.Rulings.{by-test, by-key, by-keys}
 
 -- Rules 3: after taking a slot the extent is the higher of what it was and the slot taken
@@ -104,7 +107,7 @@ module _ (st : State) (lent : List ℕ) where
   on-live k rule h = by-key (Keeps st) (λ r. tt) st k rule (λ l. h)
 
   keeps : (c : Call) → (Anew c → ⊥) → Keeps st (ruling st lent c)
-  unfolding Reads.lenSurject Reads.inSameSurject Reads.getElement Reads.getShared Reads.getSize Reads.getTotal Reads.lookup Reads.setElement Reads.setShared Runs.newRun Runs.begun Runs.insert Runs.inserted Runs.keeping Runs.joined Runs.union Runs.remove Drains.removeShared Drains.list Drains.drain Seals.seal Seals.sealed Exchange.exchange Undo.undo Undo.takenBack freeShared freed raise
+  unfolding Reads.lenSurject Reads.inSameSurject Reads.getElement Reads.getShared Reads.getSize Reads.getTotal Reads.lookup Reads.setElement Reads.setShared Runs.newRun Runs.begun Runs.insert Runs.inserted Runs.keeping Runs.joined Runs.union Runs.remove Drains.removeShared Drains.list Drains.drain Seals.seal Seals.sealed Exchange.exchange Undo.undo Undo.takenBack freeShared freed raise WriteFile.writeFile
   keeps (lenSurject k) n = on-live k _ (same st)
   keeps (inSameSurject j k) n = on-live j _ (on-live k _ (same st))
   keeps (getElement k) n = on-live k _ (same st)
@@ -115,6 +118,7 @@ module _ (st : State) (lent : List ℕ) where
   keeps (setElement k payload) n = on-live k _ (record { elems = omega arith; shared = omega arith })
   keeps (setShared k value) n = on-live k _ (record { elems = omega arith; shared = omega arith })
   keeps check n = same st
+  keeps writeFile n = either (length lent <? length (bytesIn 1 st)) _ _ tt (same st)
   keeps (newRun payload value size) n =
       either (isFull (st .head .shared)) _ _ tt (either (isFull (st .head .elems)) _ _ tt (record { elems = taken-least (elemSide st); shared = taken-least (sharedSide st) }))
   keeps (insert k payload size) n =

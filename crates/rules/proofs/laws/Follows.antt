@@ -6,7 +6,7 @@ use Prim.Native.Nat.{ℕ}
 use Rattle.rules.specs.declared.Key.{Key}
 use Rattle.rules.specs.declared.Found.the-variants as lookup
 use Rattle.rules.specs.declared.Refusal.{Refusal}
-use Rattle.rules.specs.declared.Refusal.the-variants.{Shape, Unsound, Dead, SameClass, NoElement, NoShared, Short, Malformed, Sealed, Nothing, OutOfRange}
+use Rattle.rules.specs.declared.Refusal.the-variants.{Shape, Unsound, Dead, SameClass, NoElement, NoShared, Short, Malformed, NoFile, Version, Sealed, Nothing, OutOfRange}
 use Rattle.rules.specs.Notation.{if_then_else_}
 use Rattle.rules.specs.Tables.{State, LiveKey}
 use Rattle.rules.specs.Refusals.{Ruling, refuse, accept, outcome, withLive}
@@ -29,6 +29,8 @@ follows st lent h c r G (refused {r = NoElement}) = G
 follows st lent h c r G (refused {r = NoShared}) = G
 follows st lent h c r G (refused {r = Short}) = G
 follows st lent h c r G (refused {r = Malformed}) = G
+follows st lent h c r G (refused {r = NoFile}) = G
+follows st lent h c r G (refused {r = Version}) = G
 follows st lent h c r G (refused {r = Sealed}) = G
 follows st lent h c r G (refused {r = Nothing}) = G
 follows st lent h c r G (refused {r = OutOfRange}) = G

@@ -5,6 +5,7 @@ use mathlib.Core.Bool.{Bool, true, false}
 use mathlib.Core.List.{List, [], map}
 use Prim.Native.Nat.{ℕ}
 use native.Mathlib.Omega.{arith}
+use lib.ListN.{length}
 use Rattle.rules.specs.declared.Key.{Key}
 use Rattle.rules.specs.declared.Found.the-variants as lookup
 use Rattle.rules.specs.declared.Refusal.the-variants.{Shape}
@@ -28,7 +29,9 @@ use Rattle.rules.specs.Slots.{isFull}
 use Rattle.rules.specs.Compress
 use Rattle.rules.specs.Compress.{pairWidth}
 use Rattle.rules.specs.Keeping.{Effect, reads, joins, undoes, drops, effect}
-use Rattle.rules.specs.Calls.{Call, lenSurject, inSameSurject, getElement, getShared, getSize, getTotal, lookup, setElement, setShared, check, newRun, insert, union, remove, removeShared, list, drain, seal, drainAll, clear, undo, exchange, compress, compressWith, ruling, Ready, step, freshStep}
+use Rattle.rules.specs.WriteFile
+use Rattle.rules.specs.WriteFile.{bytesIn}
+use Rattle.rules.specs.Calls.{Call, lenSurject, inSameSurject, getElement, getShared, getSize, getTotal, lookup, setElement, setShared, check, newRun, insert, union, remove, removeShared, list, drain, seal, drainAll, clear, undo, exchange, compress, compressWith, writeFile, ruling, Ready, step, freshStep}
 use Rattle.rules.proofs.laws.Lists.{all-map, all-image}
 use Rattle.rules.proofs.laws.Totals.{sized-most}
 use Rattle.rules.proofs.laws.Working.{view}
@@ -76,7 +79,7 @@ module _ (st : State) (R : Ready st) where
   on-live k rule h = by-key Keeps (λ r. tt) st k rule (λ l. h (live-at st k l))
 
   keeps : (lent : List ℕ) (c : Call) → Recalled (effect c) st → Keeps (ruling st lent c)
-  unfolding Reads.lenSurject Reads.inSameSurject Reads.getElement Reads.getShared Reads.getSize Reads.getTotal Reads.lookup Reads.setElement Reads.setShared Runs.newRun Runs.insert Runs.keeping Runs.union Runs.remove Drains.removeShared Drains.list Drains.drain Drains.drainAll Drains.clear Seals.seal Exchange.exchange Compress.compress Compress.compressWith Undo.undo
+  unfolding Reads.lenSurject Reads.inSameSurject Reads.getElement Reads.getShared Reads.getSize Reads.getTotal Reads.lookup Reads.setElement Reads.setShared Runs.newRun Runs.insert Runs.keeping Runs.union Runs.remove Drains.removeShared Drains.list Drains.drain Drains.drainAll Drains.clear Seals.seal Exchange.exchange Compress.compress Compress.compressWith Undo.undo WriteFile.writeFile
   keeps lent (lenSurject k) M = on-live k _ (λ h. R)
   keeps lent (inSameSurject j k) M = on-live j _ (λ h. on-live k _ (λ l. R))
   keeps lent (getElement k) M = on-live k _ (λ h. R)
@@ -87,6 +90,7 @@ module _ (st : State) (R : Ready st) where
   keeps lent (setElement k payload) M = on-live k _ (λ h. ready-undo _ blank (setElement-keeps st R (k .slot) payload h))
   keeps lent (setShared k value) M = on-live k _ (λ h. ready-undo _ blank (setShared-keeps st R (view st .class (k .slot)) value (working st R .class-live (k .slot) h)))
   keeps lent check M = R
+  keeps lent writeFile M = either (length lent <? length (bytesIn 1 st)) _ _ (λ e. tt) (λ e. R)
   keeps lent (newRun payload value size) M =
       either (isFull (st .head .shared)) _ _ (λ e. tt) (λ e.
       either (isFull (st .head .elems)) _ _ (λ f. tt) (λ f. newRun-keeps st R payload value (sized size) (room (working st R .elems) f) (room (working st R .shared) e) (sized-most size)))

@@ -26,7 +26,9 @@ use Rattle.rules.specs.Exchange
 use Rattle.rules.specs.Exchange.{allDiffer}
 use Rattle.rules.specs.Compress
 use Rattle.rules.specs.Compress.{generationAfter, pairWidth}
-use Rattle.rules.specs.Calls.{Call, lenSurject, inSameSurject, getElement, getShared, getSize, getTotal, lookup, setElement, setShared, check, newRun, insert, union, remove, removeShared, list, drain, seal, drainAll, clear, undo, exchange, compress, compressWith, ruling}
+use Rattle.rules.specs.WriteFile
+use Rattle.rules.specs.WriteFile.{bytesIn}
+use Rattle.rules.specs.Calls.{Call, lenSurject, inSameSurject, getElement, getShared, getSize, getTotal, lookup, setElement, setShared, check, newRun, insert, union, remove, removeShared, list, drain, seal, drainAll, clear, undo, exchange, compress, compressWith, writeFile, ruling}
 use Rattle.rules.specs.Renaming.{Compresses, canonical, kept}
 use Rattle.rules.specs.History.{History, frames, othersOf, runOf, runsBut, goingOn, insertedRuns, joinedRuns, removedRuns, renamed, movedDown, withRuns, joining, puttingIn, takingOut, renaming, noted}
 use Rattle.rules.specs.Sealing.{newKey}
@@ -235,7 +237,7 @@ module _ (st : State) (lent : List ℕ) (h : History) (G : Good st h) where
       (λ k m. let l = all-at (LiveKey v) k (flat (h .runs)) (G .rings .live) m in held w (h .unjoined) k (r .1 .rings) (record { live = λ z. l .live (sym (same (k .slot)) ∙ z); gen = same (k .slot) ∙ l .gen }))
 
   pub call-goes : Recalls st h → (c : Call) → Goes c (ruling st lent c)
-  unfolding Reads.lenSurject Reads.inSameSurject Reads.getElement Reads.getShared Reads.getSize Reads.getTotal Reads.lookup Reads.setElement Reads.setShared Runs.newRun Runs.insert Runs.remove Drains.removeShared Drains.list Drains.drain Drains.drainAll Drains.clear Seals.seal Undo.undo Compress.compress Compress.compressWith
+  unfolding Reads.lenSurject Reads.inSameSurject Reads.getElement Reads.getShared Reads.getSize Reads.getTotal Reads.lookup Reads.setElement Reads.setShared Runs.newRun Runs.insert Runs.remove Drains.removeShared Drains.list Drains.drain Drains.drainAll Drains.clear Seals.seal Undo.undo Compress.compress Compress.compressWith WriteFile.writeFile
   call-goes M (lenSurject k) = by-key (Goes (lenSurject k)) (refused (lenSurject k)) st k _ (λ l q. still)
   call-goes M (inSameSurject j k) = by-key (Goes (inSameSurject j k)) (refused (inSameSurject j k)) st j _ (λ i. by-key (Goes (inSameSurject j k)) (refused (inSameSurject j k)) st k _ (λ l q. still))
   call-goes M (getElement k) = by-key (Goes (getElement k)) (refused (getElement k)) st k _ (λ l q. still)
@@ -246,6 +248,7 @@ module _ (st : State) (lent : List ℕ) (h : History) (G : Good st h) where
   call-goes M (setElement k payload) = by-key (Goes (setElement k payload)) (refused (setElement k payload)) st k _ (λ l q. still)
   call-goes M (setShared k value) = by-key (Goes (setShared k value)) (refused (setShared k value)) st k _ (λ l q. still)
   call-goes M check = λ q. still
+  call-goes M writeFile = by-test (Goes writeFile) (length lent <? length (bytesIn 1 st)) _ _ (λ e. refused writeFile Short) (λ e q. still)
   call-goes M (newRun payload value size) =
       let P = Goes (newRun payload value size) in
       by-test P (isFull (st .head .shared)) _ _ (λ e. refused (newRun payload value size) NoShared) (λ e.

@@ -8,14 +8,14 @@ use native.Mathlib.Omega.{arith}
 use Rattle.rules.specs.declared.Key.{Key}
 use Rattle.rules.specs.declared.Memory.{Memory}
 use Rattle.rules.specs.declared.Refusal.{Refusal}
-use Rattle.rules.specs.declared.Refusal.the-variants.{Shape, Unsound, Dead, SameClass, NoElement, NoShared, Short, Malformed, Nothing, Sealed, OutOfRange}
+use Rattle.rules.specs.declared.Refusal.the-variants.{Shape, Unsound, Dead, SameClass, NoElement, NoShared, Short, Malformed, NoFile, Version, Nothing, Sealed, OutOfRange}
 use Rattle.rules.specs.Notation.{if_then_else_}
 use Rattle.rules.specs.Tables.{blank, State, elemSide}
 use Rattle.rules.specs.Sound.{bothFit}
 use Rattle.rules.specs.Refusals.{Ruling, refuse, accept, answer, outcome}
 use Rattle.rules.specs.Slots.{empty, fresh}
 use Rattle.rules.specs.Undo.{takenBack, Describes, Remembers}
-use Rattle.rules.specs.Calls.{Call, lenSurject, inSameSurject, getElement, getShared, getSize, getTotal, lookup, setElement, setShared, check, newRun, insert, union, remove, removeShared, list, drain, seal, drainAll, clear, undo, exchange, compress, compressWith, ruling, step, freshStep}
+use Rattle.rules.specs.Calls.{Call, lenSurject, inSameSurject, getElement, getShared, getSize, getTotal, lookup, setElement, setShared, check, newRun, insert, union, remove, removeShared, list, drain, seal, drainAll, clear, undo, exchange, compress, compressWith, writeFile, ruling, step, freshStep}
 use Rattle.rules.specs.Keeping.{effect, Joins, Then, Accepted}
 use Rattle.rules.specs.History.{History, withRuns, accepted, noted, notedFresh, nothing}
 use Rattle.rules.proofs.laws.Sides.{live-of}
@@ -69,6 +69,7 @@ module _ (st : State) (lent : List ℕ) (h : History) (G : Good st h) (M : Recal
       by (lookup k) values st′ q = same st′ q
       by (list k) values st′ q = same st′ q
       by check values st′ q = same st′ q
+      by writeFile values st′ q = same st′ q
       by (union j k) values st′ J = joins-recalls st st′ h j k values G J
       by (setElement k payload) values st′ q = inl q
       by (setShared k value) values st′ q = inl q
@@ -94,6 +95,8 @@ module _ (st : State) (lent : List ℕ) (h : History) (G : Good st h) (M : Recal
       refused NoShared = M
       refused Short = M
       refused Malformed = M
+      refused NoFile = M
+      refused Version = M
       refused Nothing = M
       refused Sealed = M
       refused OutOfRange = M

@@ -9,10 +9,10 @@ use lib.ListN.{length, drop, length-map}
 use Rattle.rules.specs.declared.Key.{Key}
 use Rattle.rules.specs.declared.Refusal.{Refusal}
 use Rattle.rules.specs.declared.Refusal.the-variants as refusal
-use Rattle.rules.specs.Notation.{if_then_else_, flat, keep}
+use Rattle.rules.specs.Notation.{if_then_else_, _==_, flat, keep}
 use Rattle.rules.specs.Tables
 use Rattle.rules.specs.Tables.{frameWidth, State, elemSide, sharedSide, sizeAt, isSealed}
-use Rattle.rules.specs.Refusals.{Ruling, refuse, accept, Outcome, outcome}
+use Rattle.rules.specs.Refusals.{Ruling, refuse, accept, Outcome, outcome, numberOf}
 use Rattle.rules.specs.Slots
 use Rattle.rules.specs.Drains.{ring, isShort}
 use Rattle.rules.specs.Seals
@@ -20,15 +20,18 @@ use Rattle.rules.specs.Seals.{sealWidth, sealPlace, sealed}
 use Rattle.rules.specs.Compress
 use Rattle.rules.specs.Compress.{canonicalFrames, canonicalClasses, renumbered, generationAfter, liveSlots, pairWidth}
 use Rattle.rules.specs.Calls.{Call, seal, ruling, step, freshStep, AtDoor}
-use Rattle.rules.specs.History.{History, holds, runOf, othersOf, byRun, bySlot, stillIn, sealing, noted, notedFresh}
+use Rattle.rules.specs.History.{History, holds, runOf, othersOf, byRun, bySlot, stillIn, sealing, noted, notedFresh, notedRead}
+use Rattle.rules.specs.Bytes.{Bytes}
+use Rattle.rules.specs.ReadFile.{readFile, oldReader, readStep, runsOf}
 use Rattle.rules.specs.Demand
 use Rattle.rules.specs.Demand.{headerOf}
 use Rattle.rules.specs.Renaming.{Compresses, canonical, kept}
 use Rattle.rules.specs.Sealing
-use Rattle.rules.specs.Sealing.{keysWritten, newKey, Since, begin, fresh, call, compression, Sealed, Sealing}
+use Rattle.rules.specs.Sealing.{keysWritten, newKey, Since, begin, fresh, read, call, compression, Sealed, Sealing}
 use Rattle.rules.proofs.laws.Lists.{All, In, all-map, all-of, all-at, all-image, in-map, in-image}
 use Rattle.rules.proofs.laws.Columns.{upd-same}
 use Rattle.rules.proofs.laws.Steps.{length-along}
+use Rattle.rules.proofs.laws.Pools.{if-ne}
 use Rattle.rules.proofs.laws.Keys.{in-of, in-to}
 use Rattle.rules.proofs.laws.Working.{View, view, Working}
 use Rattle.rules.proofs.laws.Safe.{working}
@@ -49,7 +52,7 @@ use Rattle.rules.proofs.laws.Histories.Renumber.{rekeyed}
 use Rattle.rules.proofs.laws.Histories.Compress.{run-ring}
 use Rattle.rules.proofs.laws.Histories.Renamed.{mark-carried, named, all-live, Told, canonical-told}
 use Rattle.rules.proofs.laws.Histories.Ranked.{frames-by-slot, headers-by-slot, kept-told}
-use Rattle.rules.proofs.laws.DemandThree.{at-door, good-call, after-good, not-accepted, after-recalls}
+use Rattle.rules.proofs.laws.DemandThree.{at-door, good-call, good-read, after-good, not-accepted, after-recalls}
 use Rattle.rules.proofs.laws.Recalls.{Recalls, remembers, fresh-recalls}
 
 -- ---- some frames of sealed runs, and all frames of their runs
@@ -130,6 +133,15 @@ module _ (st : State) (h : History) (n : ℕ) (ks : List Key) (H : Held st h n k
   held-fresh : (elems shared : ℕ) → Held (freshStep st elems shared .state) (notedFresh h (freshStep st elems shared .said)) n (stillIn (notedFresh h (freshStep st elems shared .said) .runs) ks)
   held-fresh elems shared = still _ _ (closed-outcome st [] (Slots.fresh st elems shared) (closes-fresh st elems shared)) (good-fresh st elems shared h (H .good)) (fresh-recalls st elems shared h (H .recalls))
 
+  -- Ticket 11: an accepted read puts other frames in, a refused one changes nothing
+  held-read : (file : List ℕ) → Bytes file → Held (readStep st file .state) (notedRead h (runsOf file) (readStep st file .said)) n (if readStep st file .said .number == 0 then [] else ks)
+  held-read file b = go (readFile oldReader st file) (good-read (H .good) (H .recalls) file b)
+    where
+      go : (q : Ruling) → Good (outcome st [] q .state) (notedRead h (runsOf file) (outcome st [] q .said)) × Recalls (outcome st [] q .state) (notedRead h (runsOf file) (outcome st [] q .said))
+          → Held (outcome st [] q .state) (notedRead h (runsOf file) (outcome st [] q .said)) n (if outcome st [] q .said .number == 0 then [] else ks)
+      go (accept values over st′ places) G = record { good = G .0; recalls = G .1; whole = record { live = tt; marked = tt; closed = λ j m. absurd m }; few = omega arith }
+      go (refuse r) G = rw (if-ne (numberOf r) 0 [] ks (not-accepted r)) (record { good = G .0; recalls = G .1; whole = H .whole; few = H .few })
+
   held-call : (lent : List ℕ) (c : Call) (o : Outcome) → AtDoor st lent c o → (Compresses c → o .said .number ≢ 0) → Held (o .state) (noted h c (o .said)) n (stillIn (noted h c (o .said) .runs) ks)
   held-call lent c o d x =
       let q = at-door (H .good) (H .recalls) lent c o d in
@@ -173,6 +185,7 @@ module _ (st : State) (h : History) (n : ℕ) (ks : List Key) (H : Held st h n k
 since : {st st′ : State} {h h′ : History} {ks ks′ : List Key} (n : ℕ) → Held st h n ks → Since st h ks st′ h′ ks′ → Held st′ h′ n ks′
 since n H begin = H
 since n H (fresh {st′ = s} {h′ = g} {ks′ = xs} a elems shared) = held-fresh s g n xs (since n H a) elems shared
+since n H (read {st′ = s} {h′ = g} {ks′ = xs} a file b) = held-read s g n xs (since n H a) file b
 since n H (call {st′ = s} {h′ = g} {ks′ = xs} a lent c o d x) = held-call s g n xs (since n H a) lent c o d x
 since n H (compression {st′ = s} {h′ = g} {ks′ = xs} a lent c r o d e) = held-compress s g n xs (since n H a) lent c r o d e
 

@@ -3,15 +3,15 @@ use mathlib.Core.Path.{_≡_, refl, sym, ap, _∙_, subst}
 use mathlib.Core.Logic.{_⊎_, inl, inr}
 use mathlib.Core.Bool.{Bool, false, _&&_, not}
 use mathlib.Core.List.{List, [], _∷_, _++_, map}
-use Prim.Native.Nat.{ℕ, _+_, _≤_, _<_}
+use Prim.Native.Nat.{ℕ, suc, _+_, _≤_, _<_}
 use native.Mathlib.Omega.{arith}
-use lib.ListN.{getD}
+use lib.ListN.{length, getD}
 use Rattle.rules.specs.declared.Key.{Key}
 use Rattle.rules.specs.declared.Found.{Found}
 use Rattle.rules.specs.declared.Found.the-variants.{Live, Dead}
 use Rattle.rules.specs.declared.Refusal.{Refusal}
 use Rattle.rules.specs.declared.Refusal.the-variants.{NoElement, NoShared, Short, Sealed}
-use Rattle.rules.specs.Notation.{flat}
+use Rattle.rules.specs.Notation.{along, flat}
 use Rattle.rules.specs.Tables
 use Rattle.rules.specs.Tables.{frameWidth, State, found, sizeAt, sized, isSealed}
 use Rattle.rules.specs.Refusals
@@ -26,11 +26,14 @@ use Rattle.rules.specs.Compress
 use Rattle.rules.specs.Compress.{generationAfter, pairWidth}
 use Rattle.rules.specs.Calls.{Call, newRun, insert, remove, removeShared, drain, drainAll, clear, compress, compressWith, lookup, ruling, step, AtDoor}
 use Rattle.rules.specs.Renaming.{Compresses, canonical, kept}
-use Rattle.rules.specs.History.{History, othersOf, runOf, runsBut, goingOn, insertedRuns, removedRuns, puttingIn, renaming, noted}
-use Rattle.rules.specs.Demand.{Sequence, headerOf}
+use Rattle.rules.specs.History.{History, othersOf, runOf, runsBut, goingOn, insertedRuns, removedRuns, puttingIn, renaming, noted, nothing, keysPast, runsPast, readInto, notedRead}
+use Rattle.rules.specs.RunFile.{StoredRun}
+use Rattle.rules.specs.ReadFile.{readStep, runsOf}
+use Rattle.rules.specs.Demand.{Sequence, fromRead, andRead, headerOf}
 use Rattle.rules.specs.Sealing
-use Rattle.rules.specs.Stale.{Ends, Quietly, call, copied, Gives, begun, put, renewed, Since, given, since, Later, now, later, Takes, removed, removedShared, drained, drainedAll, cleared, compressed, TakenOut, taken, StaysDead}
-use Rattle.rules.proofs.laws.Lists.{In, Out, all-at, out-not, nodup-parts}
+use Rattle.rules.specs.Stale.{Ends, Quietly, call, unread, copied, ReadIn, first, next, Gives, begun, put, renewed, Since, given, filed, since, Later, now, later, Takes, removed, removedShared, drained, drainedAll, cleared, compressed, TakenOut, taken, StaysDead}
+use Rattle.rules.proofs.laws.Lists.{In, Out, all-at, in-parts, in-image, out-not, nodup-parts}
+use Rattle.rules.proofs.laws.Pools.{if-eq, if-ne}
 use Rattle.rules.proofs.laws.Keys.{key-path}
 use Rattle.rules.proofs.laws.Working.{view}
 use Rattle.rules.proofs.laws.Safe.{working, looked}
@@ -125,6 +128,17 @@ module _ (st : State) (lent : List ℕ) (h : History) (G : Good st h) (k : Key) 
   given-kept c G′ n (put j payload size v) = insert-gives j payload size n v
   given-kept c G′ n (renewed r l) = compress-gives r n (in-live (step st lent c .state) _ G′ k l)
 
+-- the keys of a read
+past-generation : (k : Key) (a : ℕ) (rs : List StoredRun) → In k (flat (runsPast a rs)) → k .generation ≡ 1
+past-generation k a (r ∷ rs) m = go (in-parts k (keysPast a (length (r .frames))) (flat (runsPast (a + length (r .frames)) rs)) m) (past-generation k (a + length (r .frames)) rs)
+  where
+    go : In k (keysPast a (length (r .frames))) ⊎ In k (flat (runsPast (a + length (r .frames)) rs)) → (In k (flat (runsPast (a + length (r .frames)) rs)) → k .generation ≡ 1) → k .generation ≡ 1
+    go (inl i) f = ap (λ (j : Key). j .generation) (in-image (λ s. record { slot = s; generation = 1 }) k (along suc (length (r .frames)) (suc a)) i .2)
+    go (inr i) f = f i
+
+first-kept : (k : Key) (h : History) (rs : List StoredRun) → In k (flat (readInto h rs .runs)) → Kept k (readInto h rs)
+first-kept k h rs m = record { old = omega (arith, past-generation k 0 rs m); here = inl m }
+
 -- a state of a sequence is good, and what it remembers is right
 good-of : (s : Sequence) → Good (s .state) (s .history)
 good-of s = after-good (s .calls)
@@ -136,13 +150,22 @@ quietly-moves : (s : Sequence) {s′ : Sequence} → Quietly s s′ → Moves (s
 quietly-moves s (call lent c o d q) =
     let h = s .history in
     subst (λ (p : Outcome). (Ends (s .state) p c → ⊥) → Moves h (noted h c (p .said))) (sym (at-door (good-of s) (recalls-of s) lent c o d)) (call-goes (s .state) lent h (good-of s) (recalls-of s) c) q
+quietly-moves s (unread file b n) = subst (λ (h : History). Moves (s .history) h) (sym (if-ne (readStep (s .state) file .said .number) 0 (readInto (s .history) (runsOf file)) (s .history) n)) (record { rises = omega arith; left = λ k i. inl i; came = λ k i. inl i })
 quietly-moves s (copied target o d e) = record { rises = omega arith; left = λ k i. inl i; came = λ k i. inl i }
+
+-- Ticket 11: a key that a read gave is of the first generation
+read-kept : (k : Key) {s : Sequence} → ReadIn s → Tables.LiveKey (s .state) k → Kept k (s .history)
+read-kept k (first st file b e) l = first-kept k nothing (runsOf file) (in-live _ _ (good-of (fromRead st file b e)) k l)
+read-kept k (next s file b e) l =
+    let q : notedRead (s .history) (runsOf file) (readStep (s .state) file .said) ≡ readInto (s .history) (runsOf file) = if-eq (readStep (s .state) file .said .number) 0 (readInto (s .history) (runsOf file)) (s .history) e in
+    subst (λ (h : History). In k (flat (h .runs)) → Kept k h) (sym q) (first-kept k (s .history) (runsOf file)) (in-live _ _ (good-of (andRead s file b)) k l)
 
 since-kept : (k : Key) {s : Sequence} → Since k s → Kept k (s .history)
 since-kept k (given s lent c o d n g) =
     let h = s .history in
     let G = good-of s in
     subst (λ (p : Outcome). Good (p .state) (noted h c (p .said)) → p .said .number ≡ 0 → Gives p k c → Kept k (noted h c (p .said))) (sym (at-door G (recalls-of s) lent c o d)) (given-kept (s .state) lent h G k c) (good-call G (recalls-of s) lent c o d .0) n g
+since-kept k (filed r l) = read-kept k r l
 since-kept k (since {s = s} p q) = kept-on k (quietly-moves s q) (since-kept k p)
 
 -- what is known of a key that is not live

@@ -22,7 +22,7 @@ same-length-2 : tie.Need-same-length-2
 same-length-2 c = search needs
 
 returns : tie.Need-returns
-returns c = freshened _ _ _ _ _ _ _ _ _ _ _ _ (c .before .before .before .before .before .before .before .before .before .before .before .unpack .ensures) (c .before .before .before .before .before .before .before .before .fresh .ensures) (c .before .before .plain .ensures _) (c .store .ensures)
+returns c = freshened _ _ _ _ _ _ _ _ _ _ (c .before .before .before .before .before .before .before .before .before .before .before .unpack .ensures) _ _ (c .before .before .before .before .before .before .before .before .fresh .ensures) (c .before .before .plain .ensures _) (c .store .ensures)
 
 pub doorsedge-fresh-spec : {M : Type 1} → statement M
 doorsedge-fresh-spec =

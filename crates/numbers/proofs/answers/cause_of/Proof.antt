@@ -8,14 +8,14 @@ use lib.ListN.{getD}
 use types.Run.{OneOf}
 use denote.Enum.Declared.{tagOf}
 use Rattle.rules.specs.declared.Refusal.{Refusal}
-use Rattle.rules.specs.declared.Refusal.the-variants.{Shape, Unsound, Dead, SameClass, NoElement, NoShared, Short, Malformed, Nothing, Sealed, OutOfRange}
+use Rattle.rules.specs.declared.Refusal.the-variants.{Shape, Unsound, Dead, SameClass, NoElement, NoShared, Short, Malformed, NoFile, Nothing, Version, Sealed, OutOfRange}
 use Rattle.rules.proofs.Refusal.{the-type}
 use Rattle.rules.specs.Refusals.{valuesOf}
 use borrow.Author.Needs.{needs}
 use Rattle.numbers.proofs.answers.cause_of.Statement.{statement}
 use Rattle.numbers.proofs.answers.cause_of.Tie as tie
 
-not-dead : OneOf (0 ∷ 1 ∷ 3 ∷ 4 ∷ 5 ∷ 6 ∷ 7 ∷ 8 ∷ 9 ∷ 10 ∷ []) 2 → ⊥
+not-dead : OneOf (0 ∷ 1 ∷ 3 ∷ 4 ∷ 5 ∷ 6 ∷ 7 ∷ 8 ∷ 9 ∷ 10 ∷ 11 ∷ 12 ∷ []) 2 → ⊥
 not-dead (inl e) = omega (arith, e)
 not-dead (inr (inl e)) = omega (arith, e)
 not-dead (inr (inr (inl e))) = omega (arith, e)
@@ -25,9 +25,11 @@ not-dead (inr (inr (inr (inr (inr (inl e)))))) = omega (arith, e)
 not-dead (inr (inr (inr (inr (inr (inr (inl e))))))) = omega (arith, e)
 not-dead (inr (inr (inr (inr (inr (inr (inr (inl e)))))))) = omega (arith, e)
 not-dead (inr (inr (inr (inr (inr (inr (inr (inr (inl e))))))))) = omega (arith, e)
-not-dead (inr (inr (inr (inr (inr (inr (inr (inr (inr e))))))))) = omega (arith, e)
+not-dead (inr (inr (inr (inr (inr (inr (inr (inr (inr (inl e)))))))))) = omega (arith, e)
+not-dead (inr (inr (inr (inr (inr (inr (inr (inr (inr (inr (inl e))))))))))) = omega (arith, e)
+not-dead (inr (inr (inr (inr (inr (inr (inr (inr (inr (inr (inr e))))))))))) = omega (arith, e)
 
-no-cause : (r : Refusal) → OneOf (0 ∷ 1 ∷ 3 ∷ 4 ∷ 5 ∷ 6 ∷ 7 ∷ 8 ∷ 9 ∷ 10 ∷ []) (tagOf the-type r) → _≡_ {A = ℕ} 0 (getD (valuesOf r []) 0 0)
+no-cause : (r : Refusal) → OneOf (0 ∷ 1 ∷ 3 ∷ 4 ∷ 5 ∷ 6 ∷ 7 ∷ 8 ∷ 9 ∷ 10 ∷ 11 ∷ 12 ∷ []) (tagOf the-type r) → _≡_ {A = ℕ} 0 (getD (valuesOf r []) 0 0)
 no-cause Shape h = refl
 no-cause Unsound h = refl
 no-cause (Dead cause) h = absurd (not-dead h)
@@ -36,7 +38,9 @@ no-cause NoElement h = refl
 no-cause NoShared h = refl
 no-cause Short h = refl
 no-cause Malformed h = refl
+no-cause NoFile h = refl
 no-cause Nothing h = refl
+no-cause Version h = refl
 no-cause Sealed h = refl
 no-cause OutOfRange h = refl
 

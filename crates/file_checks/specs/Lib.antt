@@ -1,0 +1,2 @@
+-- What the first pass answers.
+pub mod Said

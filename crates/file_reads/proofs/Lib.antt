@@ -1,0 +1,4 @@
+pub mod Standing
+pub mod Filling
+pub mod Reading
+pub mod Call

@@ -1,0 +1,2 @@
+-- What the reader's second pass rests on.
+pub mod Fills
