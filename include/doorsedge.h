@@ -8,10 +8,10 @@
    the buffers that some calls write. Nothing is allocated, nothing is kept between calls. Any numbers may stand in
    them: each call tests them and refuses what does not fit.
 
-   Pointers. A length is counted in numbers (uint64_t), not in bytes. Each pointer must be to memory of the size said,
-   aligned as a uint64_t is, and what a call may write must not overlap anything else that it is given. NULL is allowed
-   exactly where a length of 0 comes with it: `drain_all` of empty tables takes (NULL, 0) for its records, `compress_with`
-   for its pairs.
+   Pointers. A length is counted in numbers (uint64_t), not in bytes; a run file's alone is counted in bytes. Each pointer
+   must be to memory of the size said, aligned as a uint64_t is, a run file's aligned in any way, and what a call may write
+   must not overlap anything else that it is given. NULL is allowed exactly where a length of 0 comes with it: `drain_all`
+   of empty tables takes (NULL, 0) for its records, `compress_with` for its pairs.
 
    One call at a time may be made on a head and its tables, reads included: nothing here locks, so threads that share
    them need one lock around every call. And what a call answered holds until the next call: a count that was read
@@ -22,15 +22,15 @@
    moment, and marks the run in its shared slot. From then on no frame comes into that run: `insert` at it and `union` with
    it, from either side, are refused 12, and so is sealing it again. So the frames of the run are always among those that
    `seal` wrote, by their new keys after a compression. Reading, setting, removing and draining go on as before. The mark
-   goes when the run's last frame goes, and with `clear` and `fresh`; a compression takes it along. There is no call that
-   takes a seal back.
+   goes when the run's last frame goes, and with `clear`, `fresh` and `read_file`; a compression takes it along. There is
+   no call that takes a seal back.
 
    Undo. After an accepted `union` the head keeps what is needed to take it back, in its last four numbers, and `undo`
    does: head and both tables are then number for number as they were before the union, ring order, free chain and shared
    slot included, and there is nothing further to undo. Any other accepted call drops what the head keeps, but a read,
-   `list`, `lookup` and `check`; so does a set or an exchange of values that were there already. A refused call leaves it
-   alone. So who wants to offer an undo makes no other call in between; and of several unions only the last comes back. No
-   frame comes or goes by an undo, and no key changes.
+   `list`, `lookup`, `check` and `write_file`; so does a set or an exchange of values that were there already. A refused
+   call leaves it alone. So who wants to offer an undo makes no other call in between; and of several unions only the last
+   comes back. No frame comes or goes by an undo, and no key changes.
 
    Copies. `clone_from` copies a study to other tables, say to those of a review station: every frame and every header to
    the slot that it has, so that each key that is live in the source is live in the copy, and no other, and means the same
@@ -38,6 +38,17 @@
    keeps its own undo. The target's head gives its capacities, which may differ from the source's; whatever else stood in the
    target's head and tables goes, sound or not. From then on the two are apart: what is done in one does not show in the
    other, and a key that one of them gives may be live in the other too and mean another frame there. So mark whose key it is.
+
+   Run files. `write_file` writes a study into bytes that the caller stores or sends: every run's shared value and total,
+   and its frames' payloads and sizes in ring order from its lowest slot, runs in the order of their lowest slots. Nothing
+   of the study changes, and its undo is kept. `read_file` makes a study of such bytes, in tables of any capacities that
+   have room: the frames come to slots 1 and up in the file's order, run k under shared slot k, as `compress_canonical`
+   would have them. What a file does not hold is not there then: no run is sealed, every frame has generation 1, nothing is
+   to be undone. So the keys of the study that was written are no keys of the one that was read, and of the tables that
+   were read into, a read makes all earlier keys old, as `fresh` does. Bytes are believed in nothing: they are tested whole
+   before a number is stored, and what is not exactly a run file is refused 9, or 11 where its version is another. So a
+   file that was cut, or got longer, or was changed in an offset, length, count, size or total is refused; one whose values
+   or payloads alone were changed is not, since those may be any numbers. docs/FILE.md has the format on one page.
 
    Sizes. A frame has a size in bytes, a uint32_t given with it, and a run's header the total of its frames' sizes.
    `insert` adds to the total, `union` adds both, `undo` parts them again, removals and drains subtract, and both
@@ -48,10 +59,10 @@
 
    Refusals. Each entry returns 0 when it accepted, else the number of the refusal. A refused call changes nothing: head,
    tables, buffers and `out` stay as they were. The tests come in the order 1, 2, 10, 3, 4, 12, 6, 5, 7, and each entry
-   below lists those that it can give; `clone_from` alone tests 5 before 6. Every entry that takes tables, but `fresh`, can
-   give 1 and 2; of the two studies of `clone_from`, 2 is said of the source alone. Refusal 3 says why the key is dead: the entry returns
-   3 + 256 * cause, so compare DOORSEDGE_NUMBER(result) with DOORSEDGE_DEAD, never the result itself. Every other result
-   is the number alone.
+   below lists those that it can give; `clone_from` alone tests 5 before 6, and `read_file` tests in the order 1, 9, 11, 9,
+   6, 5. Every entry that takes tables can give 1, and 2 but for `fresh` and `read_file`; of the two studies of
+   `clone_from`, 2 is said of the source alone. Refusal 3 says why the key is dead: the entry returns 3 + 256 * cause, so
+   compare DOORSEDGE_NUMBER(result) with DOORSEDGE_DEAD, never the result itself. Every other result is the number alone.
 
    Keys. A key is two numbers, slot and generation. It is live while its frame is in the tables, and dead (refusal 3)
    from its frame's removal on. Where only these calls write the tables, a dead key can come alive again, meaning
@@ -59,31 +70,32 @@
      - an answer said overflow: the generation went from 4,294,967,295 to 1, and rises again through old numbers. A
        removal raises it by one, so with a thousand a second that comes after 49 days;
      - drain_all overflowed in its closing clear, which no answer says: the head's generation is then 1;
-     - `fresh`, or a compression with `reset`: the generation is 1 again;
+     - `fresh`, `read_file`, or a compression with `reset`: the generation is 1 again;
      - `clone_from` to these tables, for each key that they gave or held before it: the generation is the source's then.
    A key that came with a copy is, in the copy, a key that was given when the source gave it: what the source's calls did up
    to the copy, and the copy's calls from there on, is what counts for it.
    Why a key is dead. One of three causes, tested in this order: 1 its slot is 0 or past the extent, 2 its slot is free,
    3 its slot holds a frame of another generation. Of several keys it is the cause of the first dead one, in the order of
    the arguments. Where only these calls write the tables, a key that was given since the last `fresh`, `clear`,
-   `drain_all`, compression or copy to these tables, or that was live in that copy,
+   `drain_all`, compression, read of a file or copy to these tables, or that was live in that copy,
      - never has cause 1;
      - has cause 2 where its frame is gone and its slot is free;
      - has cause 3 where its frame is gone and another came into its slot.
    So cause 1 is that of a key from before, of other tables, or damaged on its way. But such keys can have any of the three.
    `lookup` asks for nothing but this.
 
-   After `fresh`, `clear`, `drain_all` and a compression forget all keys from before, and after a copy those of the
-   target's old study; `compress_with` tells each frame's new one. What to do on overflow: before the next frame is put
+   After `fresh`, `clear`, `drain_all`, `read_file` and a compression forget all keys from before, and after a copy those of
+   the target's old study; `compress_with` tells each frame's new one. What to do on overflow: before the next frame is put
    in, compress, and forget all keys from before. Or, where keys have to stay, forget those of frames that are gone (a
    read gives 3 for each), and each of the others as soon as its frame goes: they are good until then.
 
-   What a call costs. Anything may stand in the tables, so every call but `fresh` reads both of them whole, up to their
-   capacities, before it does its own work; `fresh` writes them whole, and `clone_from` reads the source's and writes the
-   target's. That is 4 to 7 ns a slot on the machine of docs/SPEED.md, and up to 30 where one ring lies scattered over
+   What a call costs. Anything may stand in the tables, so every call but `fresh` and `read_file` reads both of them whole, up
+   to their capacities, before it does its own work; `fresh` writes them whole, and `clone_from` reads the source's and writes
+   the target's. That is 4 to 7 ns a slot on the machine of docs/SPEED.md, and up to 30 where one ring lies scattered over
    65,536 slots: choose capacities that a study needs. Where the head keeps a union, the smaller of its two runs is
-   walked once more. A call takes at most DOORSEDGE_STACK bytes of stack (tests/stack-use.sh adds them up), uses no other
-   memory than what is lent, and asks for one symbol from outside, memset.
+   walked once more. `read_file` goes through the file twice, first to test it, and writes the tables whole. A call takes at
+   most DOORSEDGE_STACK bytes of stack (tests/stack-use.sh adds them up), and each but `write_file` at most 9,728; it uses no
+   other memory than what is lent, and asks for one symbol from outside, memset.
 
    Planning unions. Each `union` answers how many frames changed their run: that many class entries it rewrote. From `fresh`
    on, as long as frames are only put in and runs joined (reads, sets, seals and refused calls may come between), these
@@ -132,10 +144,14 @@ enum doorsedge_refusal {
     DOORSEDGE_UNSOUND = 2,    /* the shape fits, but head and tables are not a sound state (Sound 1 to 15, above) */
     DOORSEDGE_DEAD = 3,       /* a key handed in is not live; the result says why, see doorsedge_cause */
     DOORSEDGE_SAME_CLASS = 4, /* two keys that must be of different runs are of one */
-    DOORSEDGE_NO_ELEMENT = 5, /* no element slot up to the capacity is free; of a copy: its last frame's slot is past it */
-    DOORSEDGE_NO_SHARED = 6,  /* no shared slot up to the capacity is free; of a copy: its last header's slot is past it */
+    DOORSEDGE_NO_ELEMENT = 5, /* no element slot up to the capacity is free; of a copy: its last frame's slot is past it; of a
+                                 file: it has more frames */
+    DOORSEDGE_NO_SHARED = 6,  /* no shared slot up to the capacity is free; of a copy: its last header's slot is past it; of a
+                                 file: it has more runs */
     DOORSEDGE_SHORT = 7,      /* a buffer has fewer places than needed */
+    DOORSEDGE_NO_FILE = 9,    /* the bytes are no run file */
     DOORSEDGE_NOTHING = 10,   /* there is no union to take back */
+    DOORSEDGE_OTHER_VERSION = 11, /* the bytes begin with another version than DOORSEDGE_FILE_VERSION */
     DOORSEDGE_SEALED = 12,    /* the run is sealed: no frame may come into it, nor may it be sealed again */
     DOORSEDGE_OUT_OF_RANGE = 13 /* a number handed in is not in its range */
 };
@@ -161,9 +177,22 @@ enum doorsedge_cause {
 #define DOORSEDGE_RECORD 6        /* numbers to a record that `drain` and `drain_all` write */
 #define DOORSEDGE_PAIR 4          /* numbers to a pair of keys that `compress_with` writes */
 #define DOORSEDGE_MOST_SLOTS 65536
-#define DOORSEDGE_STACK 9728      /* bytes of stack that a call takes at most, memset's own not counted */
+#define DOORSEDGE_STACK 17408     /* bytes of stack that a call takes at most, memset's own not counted */
 #define DOORSEDGE_LAST_GENERATION UINT64_C(4294967295)
 #define DOORSEDGE_MOST_BYTES UINT64_C(4294967295) /* the greatest size of a frame */
+
+/* A run file: its version, and the bytes before its contents, of each run in the contents, of each body before its frames,
+   and of each frame. */
+#define DOORSEDGE_FILE_VERSION 1
+#define DOORSEDGE_FILE_PREFACE 8 /* version, run count: a uint32_t each; all numbers of a file are little-endian */
+#define DOORSEDGE_FILE_ENTRY 8   /* the body's offset from the file's start, and its length: a uint32_t each */
+#define DOORSEDGE_FILE_BODY 20   /* shared value and total, a uint64_t each; frame count, a uint32_t */
+#define DOORSEDGE_FILE_FRAME 12  /* payload, a uint64_t; size, a uint32_t */
+
+/* Bytes of the file of so many runs and frames: at most 2,621,448. */
+#define DOORSEDGE_FILE_LEN(runs, frames)                                                                               \
+    (DOORSEDGE_FILE_PREFACE + (size_t)(runs) * (DOORSEDGE_FILE_ENTRY + DOORSEDGE_FILE_BODY) +                          \
+     (size_t)(frames) * DOORSEDGE_FILE_FRAME)
 
 /* Lengths, in numbers, for capacities and counts of frames. */
 #define DOORSEDGE_ELEMS_LEN(capacity) ((size_t)(capacity) * DOORSEDGE_FRAME)
@@ -174,8 +203,9 @@ enum doorsedge_cause {
 #define DOORSEDGE_PAIRS_LEN(frames) ((size_t)(frames) * DOORSEDGE_PAIR)
 #define DOORSEDGE_SCRATCH_LEN(capacity) ((size_t)(capacity) * DOORSEDGE_FRAME)
 
-/* The head's numbers. The extent is the highest slot ever used since fresh, clear, compression or copy; a copy's own slots
-   count as used. The last four are of the union that `undo` takes back, and all 0 where there is none. */
+/* The head's numbers. The extent is the highest slot ever used since fresh, clear, compression, copy or read of a file; the
+   slots of what was copied or read count as used. The last four are of the union that `undo` takes back, and all 0 where
+   there is none. */
 enum doorsedge_head {
     DOORSEDGE_ELEMS_CAPACITY = 0,
     DOORSEDGE_ELEMS_EXTENT = 1,
@@ -361,7 +391,8 @@ uint64_t doorsedge_union(uint64_t head[DOORSEDGE_HEAD], uint64_t *elems, size_t 
                          uint64_t out[4]);
 
 /* Takes the last union back; see Undo, above. Head and tables become what they were before it, and nothing is kept.
-   Refusals: 1, 2, 10 (no union was made, or another call was accepted since that is no read, list, lookup or check). */
+   Refusals: 1, 2, 10 (no union was made, or another call was accepted since that is no read, list, lookup, check or
+   write_file). */
 uint64_t doorsedge_undo(uint64_t head[DOORSEDGE_HEAD], uint64_t *elems, size_t elems_len, uint64_t *shared,
                         size_t shared_len);
 
@@ -442,6 +473,24 @@ uint64_t doorsedge_union_ceiling(uint64_t n, uint64_t out[1]);
 uint64_t doorsedge_clone_from(uint64_t head[DOORSEDGE_HEAD], uint64_t *elems, size_t elems_len, uint64_t *shared,
                               size_t shared_len, const uint64_t from_head[DOORSEDGE_HEAD], const uint64_t *from_elems,
                               size_t from_elems_len, const uint64_t *from_shared, size_t from_shared_len);
+
+/* ---- Run files; see above, and docs/FILE.md. `file` is bytes, and `file_len` how many. */
+
+/* Writes the study as a run file to the start of `file`. Head and tables stay as they are, what the head keeps of a union
+   too, and so do the bytes past the file.
+   out: how many bytes the file has: DOORSEDGE_FILE_LEN(all runs, all frames), by the head's two live numbers.
+   Refusals: 1, 2, 7 (fewer than so many bytes). */
+uint64_t doorsedge_write_file(const uint64_t head[DOORSEDGE_HEAD], const uint64_t *elems, size_t elems_len,
+                              const uint64_t *shared, size_t shared_len, uint8_t *file, size_t file_len,
+                              uint64_t out[1]);
+
+/* Makes a study of a run file, which is all of `file`, whatever stood in head and tables: of these only the two capacities
+   are read and kept. The frames come to slots 1 and up in the file's order, each run to a ring of its own, run k under shared
+   slot k, unsealed, and all with generation 1; everything past them is zero, and there is nothing to undo.
+   Refusals: 1, 9, 11, 9, 6, 5, in this order: 9 for fewer than DOORSEDGE_FILE_PREFACE bytes, 11, 9 for anything else that
+   is not as docs/FILE.md says, 6 for more runs than the shared capacity, 5 for more frames than the element capacity. */
+uint64_t doorsedge_read_file(uint64_t head[DOORSEDGE_HEAD], uint64_t *elems, size_t elems_len, uint64_t *shared,
+                             size_t shared_len, const uint8_t *file, size_t file_len);
 
 /* ---- The head lent in place: a writer lends its own struct, which lies as the DOORSEDGE_HEAD numbers do, and calls
    these two as `insert` and `remove_element` are called. The same struct may be handed to the other entries, as its

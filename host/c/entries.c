@@ -1,5 +1,5 @@
-/* Every entry of doorsedge.h, called from C: an accepted call and a refused one, with what it answers and leaves. Built and
-   run by host/c/run.sh; tools/check-header fails where an entry is not called here. */
+/* Every entry of doorsedge.h but those on run files, which are in file.c, called from C: an accepted call and a refused one, with
+   what it answers and leaves. Built and run by host/c/run.sh; tools/check-header fails where no program here calls an entry. */
 #include "entries.h"
 
 static void fresh_and_check(void) {

@@ -1,6 +1,9 @@
 /* A recorder of image runs, as a host writes it in C: frames come in, runs are joined, the wrong two among them, which is taken
-   back, a bad frame goes, the frames move down and the keys that are held follow, a viewer lists a run, the study is written out
-   and the tables are ready for the next patient. Its tables are its own; nothing is allocated. Built and run by host/c/run.sh, which compares what it prints with recorder.stdout. */
+   back, a bad frame goes, the frames move down and the keys that are held follow, a viewer lists a run, the study is saved to a
+   file and read back by a viewer with tables of its own, the study is written out and the tables are ready for the next patient.
+   Its tables are its own; nothing is allocated. Built and run by host/c/run.sh, which compares what it prints with
+   recorder.stdout.
+     recorder [FILE]   the study's file is kept there; without FILE it goes with the recorder */
 #include "doorsedge.h"
 
 #include <inttypes.h>
@@ -128,6 +131,46 @@ static void pack(study *s, key *held[], size_t count) {
     printf("packed: %" PRIu64 " frames, each with a new key\n", out[0]);
 }
 
+/* The study's file, to the start of this stream. */
+static size_t save(const study *s, FILE *to) {
+    static uint8_t file[DOORSEDGE_FILE_LEN(RUNS, FRAMES)];
+    uint64_t bytes[1];
+    must("write", doorsedge_write_file(s->head, TABLES(s), file, sizeof file, bytes));
+    rewind(to);
+    if (fwrite(file, 1, bytes[0], to) != bytes[0] || fflush(to) != 0) {
+        perror("the study's file");
+        exit(1);
+    }
+    return bytes[0];
+}
+
+/* The first bytes of the stream as a study, whatever the tables held: any bytes may come from outside, so a refusal is told. */
+static uint64_t load(study *s, FILE *from, size_t bytes) {
+    static uint8_t file[DOORSEDGE_FILE_LEN(RUNS, FRAMES)];
+    rewind(from);
+    s->head[DOORSEDGE_ELEMS_CAPACITY] = FRAMES;
+    s->head[DOORSEDGE_SHARED_CAPACITY] = RUNS;
+    return doorsedge_read_file(s->head, TABLES(s), file, fread(file, 1, bytes < sizeof file ? bytes : sizeof file, from));
+}
+
+/* Saved, and read by a viewer: once cut by a byte on its way, and once whole. There the frames have slots 1 and up, in the file's
+   order, and every key is new. */
+static void save_and_view(const study *s, FILE *file) {
+    static study viewer;
+    size_t bytes = save(s, file);
+    printf("saved: %zu bytes\n", bytes);
+    printf("a file that was cut: refused %" PRIu64 "\n", load(&viewer, file, bytes - 1));
+    must("read", load(&viewer, file, bytes));
+    printf("the viewer has %" PRIu64 " runs and %" PRIu64 " frames\n", viewer.head[DOORSEDGE_SHARED_LIVE],
+           viewer.head[DOORSEDGE_ELEMS_LIVE]);
+    for (uint64_t slot = 1; slot <= viewer.head[DOORSEDGE_ELEMS_LIVE];) {
+        uint64_t count[1];
+        show_run(&viewer, (key){slot, 1});
+        must("count", doorsedge_len_surject(viewer.head, TABLES(&viewer), slot, 1, count));
+        slot += count[0];
+    }
+}
+
 /* The study leaves the tables, run by run; they are empty then, and old keys are dead. */
 static void write_out(study *s) {
     uint64_t records[DOORSEDGE_DRAIN_LEN(FRAMES)], count[1];
@@ -141,8 +184,13 @@ static void write_out(study *s) {
     }
 }
 
-int main(void) {
+int main(int argc, char **argv) {
     static study s;
+    FILE *file = argc > 1 ? fopen(argv[1], "wb+") : tmpfile();
+    if (!file) {
+        perror("the study's file");
+        return 1;
+    }
     begin_study(&s);
 
     /* two runs come in at the same time */
@@ -181,7 +229,13 @@ int main(void) {
     printf("the last frame of the left run: key %" PRIu64 " %" PRIu64 "\n", left_last.slot, left_last.generation);
     show_run(&s, left);
 
-    /* there is room for 64 frames, and 59 more come in */
+    /* another run comes in, and the study is saved */
+    key third = begin_run(&s, 400, 4);
+    add_frame(&s, &third, 401);
+    save_and_view(&s, file);
+    fclose(file);
+
+    /* there is room for 64 frames, and 57 more come in */
     uint64_t came = 0;
     while (add_frame(&s, &left_last, 300 + came))
         came++;

@@ -55,14 +55,20 @@ pub enum Refusal {
     Dead(Cause),
     /// Two keys that must be of different runs are of one.
     SameClass,
-    /// No element slot up to the capacity is free; or the last frame's slot of what is [copied](crate::Arena::clone_from) is past it.
+    /// No element slot up to the capacity is free; or the last frame's slot of what is [copied](crate::Arena::clone_from) is past it;
+    /// or a [file](crate::Arena::read_file) has more frames.
     NoElement,
-    /// No shared slot up to the capacity is free; or the last header's slot of what is [copied](crate::Arena::clone_from) is past it.
+    /// No shared slot up to the capacity is free; or the last header's slot of what is [copied](crate::Arena::clone_from) is past it;
+    /// or a [file](crate::Arena::read_file) has more runs.
     NoShared,
     /// A buffer has fewer places than needed.
     Short,
+    /// The bytes are no run file.
+    NoFile,
     /// There is no union to take back: none was made, or another accepted call that is no read came after it.
     Nothing,
+    /// The bytes begin with another version of run files than the one that is read.
+    OtherVersion,
     /// The run is sealed: it was saved as it stood, no frame may come into it by an insert or a union, and it cannot be
     /// sealed again. What comes too late begins a run of its own.
     Sealed,
@@ -81,7 +87,9 @@ impl Refusal {
             Refusal::NoElement => 5,
             Refusal::NoShared => 6,
             Refusal::Short => 7,
+            Refusal::NoFile => 9,
             Refusal::Nothing => 10,
+            Refusal::OtherVersion => 11,
             Refusal::Sealed => 12,
             Refusal::OutOfRange => 13,
         }
@@ -105,7 +113,9 @@ impl Refusal {
             5 => Refusal::NoElement,
             6 => Refusal::NoShared,
             7 => Refusal::Short,
+            9 => Refusal::NoFile,
             10 => Refusal::Nothing,
+            11 => Refusal::OtherVersion,
             12 => Refusal::Sealed,
             13 => Refusal::OutOfRange,
             crate::sys::ABSENT => panic!("the archive lacks this entry"),
@@ -121,10 +131,12 @@ impl fmt::Display for Refusal {
             Refusal::Shape => "a capacity is outside its range, or a table's length does not fit it",
             Refusal::Unsound => "the state is not sound",
             Refusal::SameClass => "two keys are of one run",
-            Refusal::NoElement => "no element slot up to the capacity is free, or those to be copied lie past it",
-            Refusal::NoShared => "no shared slot up to the capacity is free, or those to be copied lie past it",
+            Refusal::NoElement => "no element slot up to the capacity is free, or what is copied or read needs more",
+            Refusal::NoShared => "no shared slot up to the capacity is free, or what is copied or read needs more",
             Refusal::Short => "a buffer has fewer places than needed",
+            Refusal::NoFile => "the bytes are no run file",
             Refusal::Nothing => "there is no union to take back",
+            Refusal::OtherVersion => "the run file is of another version",
             Refusal::Sealed => "the run is sealed, no frame may come into it",
             Refusal::OutOfRange => "a number is out of its range",
         };

@@ -4,7 +4,7 @@
 //! shared value and the total of its frames' sizes.
 //! Runs are begun, grown, joined and taken apart, and the last union can be [undone](Arena::undo); a [Key] stays valid until
 //! its frame is removed or the arena is compressed. A study can be [copied](Arena::clone_from) to another arena, where its keys
-//! are valid too. Every call tests the tables, and what it cannot do it refuses with a
+//! are valid too, and [written](Arena::write_file) as bytes and [read](Arena::read_file) back. Every call tests the tables, and what it cannot do it refuses with a
 //! [Refusal], changing nothing.
 //!
 //! ```
@@ -79,6 +79,7 @@ mod answers;
 mod arena;
 mod copies;
 mod figures;
+mod files;
 pub mod sys;
 mod tables;
 mod writer;
@@ -87,6 +88,7 @@ pub use answers::{Cause, Compressed, Joined, Key, Moved, Record, Refusal, Remove
 pub use answers::{SealedFrame, SealedHeader, SealedRun};
 pub use arena::Arena;
 pub use figures::union_ceiling;
+pub use files::{FILE_BODY, FILE_ENTRY, FILE_FRAME, FILE_PREFACE, FILE_VERSION, file_len};
 pub use tables::{Borrowed, Owned, Tables};
 pub use writer::Writer;
 

@@ -3,7 +3,7 @@
 //! # Safety
 //!
 //! Each pointer is to memory of the size that the header says, is null only with a length of 0, and memory that a call may
-//! write does not overlap any other. Lengths are in numbers. One call at a time is made on a head and its tables.
+//! write does not overlap any other. Lengths are in numbers, a run file's in bytes. One call at a time is made on a head and its tables.
 
 #[cfg(feature = "mock")]
 use mock as _;
@@ -360,6 +360,27 @@ unsafe extern "C" {
         from_elems_len: usize,
         from_shared: *const u64,
         from_shared_len: usize,
+    ) -> u64;
+
+    pub fn doorsedge_write_file(
+        head: *const Head,
+        elems: *const u64,
+        elems_len: usize,
+        shared: *const u64,
+        shared_len: usize,
+        file: *mut u8,
+        file_len: usize,
+        out: *mut [u64; 1],
+    ) -> u64;
+
+    pub fn doorsedge_read_file(
+        head: *mut Head,
+        elems: *mut u64,
+        elems_len: usize,
+        shared: *mut u64,
+        shared_len: usize,
+        file: *const u8,
+        file_len: usize,
     ) -> u64;
 
     pub fn doorsedge_insert_in_place(

@@ -1,10 +1,11 @@
 //! `bench`: each call of the archive beside the plain Rust rows arena and the oracle. `bench door`: the soundness check and
 //! what a host call adds to it. `bench clear`: clear by extent. `bench compress`: compression as tables grow. `bench compress_with`:
-//! compression in slot order as tables grow. `bench clone`: copies. `bench count`: instructions. All times of a line are from the same rounds, but for the
+//! compression in slot order as tables grow. `bench clone`: copies. `bench files`: run files. `bench count`: instructions. All times of a line are from the same rounds, but for the
 //! oracle's compression in slot order; ratios are what to read.
 
 mod copies;
 mod count;
+mod files;
 mod measure;
 mod sides;
 
@@ -188,6 +189,12 @@ fn main() {
     {
         return count::once(batch.parse().unwrap(), side.parse().unwrap());
     }
+    if let [word, numbers @ ..] = &words[..]
+        && word == "repeat"
+    {
+        let numbers: Vec<usize> = numbers.iter().map(|number| number.parse().unwrap()).collect();
+        return files::repeat(numbers[0], numbers[1], numbers[2], numbers[3]);
+    }
     let on = if cfg!(feature = "mock") {
         "the MOCK: the figures of `archive` say nothing"
     } else {
@@ -202,6 +209,7 @@ fn main() {
             compress_canonical();
             compress_with();
             copies::table();
+            files::table();
             count::table();
         }
         Some("door") => door(),
@@ -209,9 +217,10 @@ fn main() {
         Some("compress") => compress_canonical(),
         Some("compress_with") => compress_with(),
         Some("clone") => copies::table(),
+        Some("files") => files::table(),
         Some("count") => count::table(),
         Some(_) => {
-            eprintln!("usage: bench [door|clear|compress|compress_with|clone|count]");
+            eprintln!("usage: bench [door|clear|compress|compress_with|clone|files|count]");
             std::process::exit(2);
         }
     }

@@ -41,9 +41,13 @@ pub enum Call {
     CloneFrom,
     /// The calls after it are made on the other recorder's tables.
     Change,
+    /// On the archive alone: what it writes is what the oracle holds.
+    WriteFile,
+    /// Written and read back; the oracle is compressed.
+    ReadFile,
 }
 
-pub const KINDS: [&str; 27] = [
+pub const KINDS: [&str; 29] = [
     "fresh",
     "check",
     "len_surject",
@@ -71,6 +75,8 @@ pub const KINDS: [&str; 27] = [
     "undo",
     "clone_from",
     "(other tables)",
+    "write_file",
+    "read_file",
 ];
 
 impl Call {
@@ -104,6 +110,8 @@ impl Call {
             Call::Undo => 24,
             Call::CloneFrom => 25,
             Call::Change => 26,
+            Call::WriteFile => 27,
+            Call::ReadFile => 28,
         }
     }
 
@@ -128,14 +136,17 @@ impl Call {
             Call::Exchange(keys, _) => keys.to_vec(),
             Call::Fresh | Call::Check | Call::InsertSurject(..) | Call::DrainAll | Call::Clear => vec![],
             Call::Compress(_) | Call::CompressWith(_) | Call::Undo | Call::CloneFrom | Call::Change => vec![],
+            Call::WriteFile | Call::ReadFile => vec![],
         }
     }
 
     /// Whether a union before it can still be undone after it, accepted or not. A copy is a read of its source.
     pub fn keeps_undo(&self) -> bool {
         use Call::*;
-        let reads =
-            matches!(self, CloneFrom | Change | Check | List(_) | Lookup(_) | LenSurject(_) | InSameSurject(..));
+        let reads = matches!(
+            self,
+            CloneFrom | Change | WriteFile | Check | List(_) | Lookup(_) | LenSurject(_) | InSameSurject(..)
+        );
         reads || matches!(self, Get(_) | GetShared(_) | GetSize(_) | GetTotal(_))
     }
 }
@@ -153,7 +164,7 @@ impl fmt::Display for Call {
         let kind = KINDS[self.kind()];
         match *self {
             Call::Fresh | Call::Check | Call::Undo | Call::DrainAll | Call::Clear => write!(f, "{kind}"),
-            Call::CloneFrom | Call::Change => write!(f, "{kind}"),
+            Call::CloneFrom | Call::Change | Call::WriteFile | Call::ReadFile => write!(f, "{kind}"),
             Call::LenSurject(k)
             | Call::Get(k)
             | Call::GetShared(k)

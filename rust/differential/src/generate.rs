@@ -20,18 +20,18 @@ impl Random {
         (self.0.wrapping_mul(0x2545_F491_4F6C_DD1D) >> 33) as usize % n
     }
 
-    fn of<T: Copy>(&mut self, choice: &[T]) -> T {
+    pub fn of<T: Copy>(&mut self, choice: &[T]) -> T {
         choice[self.below(choice.len())]
     }
 }
 
 /// What a payload or a shared value is: distinct for each call.
-fn number(serial: usize) -> u64 {
+pub fn number(serial: usize) -> u64 {
     100 + serial as u64
 }
 
 /// A frame's size: none, the most, or any.
-fn bytes(name: Name) -> u32 {
+pub fn bytes(name: Name) -> u32 {
     match name % 5 {
         0 => 0,
         1 => u32::MAX,
@@ -68,6 +68,9 @@ pub fn next_calls(live: &[Name], made: usize, is_other_empty: bool) -> Vec<Call>
     }
     if !is_other_empty || !live.is_empty() {
         calls.push(Call::CloneFrom);
+    }
+    if !live.is_empty() {
+        calls.push(Call::ReadFile);
     }
     if !is_other_empty {
         calls.push(Call::Change);
@@ -114,8 +117,8 @@ struct Mix([usize; KINDS.len()]);
 impl Mix {
     fn any(r: &mut Random) -> Mix {
         // fresh to get_shared; set, set_shared, exchange; new run, insert, union; removals; list, drains, clear, compress; seal;
-        // compress_with; lookup; get_size, get_total; undo; clone_from, and to the other tables
-        let usual = [1, 3, 3, 3, 3, 3, 4, 4, 6, 14, 20, 12, 10, 3, 4, 2, 1, 1, 3, 2, 3, 3, 3, 3, 4, 3, 4];
+        // compress_with; lookup; get_size, get_total; undo; clone_from, and to the other tables; write_file, read_file
+        let usual = [1, 3, 3, 3, 3, 3, 4, 4, 6, 14, 20, 12, 10, 3, 4, 2, 1, 1, 3, 2, 3, 3, 3, 3, 4, 3, 4, 3, 3];
         Mix(usual.map(|n| n * r.of(&[0, 1, 1, 1, 2, 6])))
     }
 
@@ -199,7 +202,9 @@ fn any_call(pair: &Pair, kind: usize, serial: usize, r: &mut Random) -> Call {
         23 => Call::GetTotal(k),
         24 => Call::Undo,
         25 => Call::CloneFrom,
-        _ => Call::Change,
+        26 => Call::Change,
+        27 => Call::WriteFile,
+        _ => Call::ReadFile,
     }
 }
 
@@ -457,6 +462,7 @@ pub fn adversarial(seed: u64, largest: usize) -> Vec<(&'static str, Case)> {
         add("sealed runs", sealed(size, r));
         add("in slot order", in_order(size, r));
         add("copies", copied(size, r));
+        add("files", crate::files::filed(size, r));
         size *= 4;
     }
     cases

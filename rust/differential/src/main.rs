@@ -9,6 +9,7 @@ mod calls;
 mod causes;
 mod compare;
 mod copies;
+mod files;
 mod generate;
 mod joins;
 mod ordered;
@@ -33,7 +34,7 @@ struct Args {
     fault: Fault,
 }
 
-const USAGE: &str = "usage: differential [CASES] [SEED] [--length N] [--fault equal|run|map|further|seal|ring|pairs|headers|cause|size|sizes|undo|kept|clone]";
+const USAGE: &str = "usage: differential [CASES] [SEED] [--length N] [--fault equal|run|map|further|seal|ring|pairs|headers|cause|size|sizes|undo|kept|clone|file]";
 
 fn args() -> Option<Args> {
     let mut args = Args { cases: 20_000, seed: 1, length: 5, fault: Fault::None };
@@ -57,6 +58,7 @@ fn args() -> Option<Args> {
                     "undo" => Fault::UndoneValue,
                     "kept" => Fault::SetKeepsUndo,
                     "clone" => Fault::ChainReversed,
+                    "file" => Fault::FramesExchanged,
                     _ => return None,
                 }
             }

@@ -55,6 +55,8 @@ pub enum Fault {
     SetKeepsUndo,
     /// A copy has its free slots chained highest first.
     ChainReversed,
+    /// A file has the first two frames of its first run of three or more exchanged.
+    FramesExchanged,
 }
 
 /// What was met.
@@ -236,6 +238,8 @@ impl Pair {
             Call::GetSize(k) => self.get_size(k)?,
             Call::GetTotal(k) => self.get_total(k)?,
             Call::CloneFrom => self.copy()?,
+            Call::WriteFile => self.write_file()?,
+            Call::ReadFile => self.read_file()?,
             Call::Change => {
                 self.change_tables();
                 None
@@ -517,7 +521,7 @@ impl Pair {
     }
 
     /// After compression every frame has a new key, known by its payload. Keys from before are not handed in again.
-    fn relearn(&mut self) -> Result<(), String> {
+    pub fn relearn(&mut self) -> Result<(), String> {
         let generation = self.port.generation();
         let rows: Vec<(u64, Key)> = self
             .port

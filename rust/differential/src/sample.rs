@@ -173,7 +173,9 @@ fn push(bytes: &mut Vec<u8>, call: &Call, refusal: u64, answers: &[u64]) {
         Call::Seal(_) | Call::CompressWith(_) | Call::Lookup(_) | Call::GetSize(_) | Call::GetTotal(_) => {
             unreachable!("a sample has no such call")
         }
-        Call::Undo | Call::CloneFrom | Call::Change => unreachable!("a sample has no such call"),
+        Call::Undo | Call::CloneFrom | Call::Change | Call::WriteFile | Call::ReadFile => {
+            unreachable!("a sample has no such call")
+        }
     };
     for (byte, name) in record[1..5].iter_mut().zip(names) {
         *byte = u8::try_from(*name).unwrap_or(255);

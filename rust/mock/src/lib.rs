@@ -5,16 +5,19 @@
 //! Every entry asks what the header asks: pointers to memory of the size said, that do not overlap where written.
 #![allow(clippy::missing_safety_doc, clippy::too_many_arguments)]
 
+mod files;
+mod wrong_files;
+
 use model::door::{Call, run};
 use model::{HEAD, Key, Source, check, copy};
 use std::slice::{from_raw_parts, from_raw_parts_mut};
 
 /// A lent table or buffer; null comes with length 0.
-unsafe fn lent<'a>(at: *mut u64, len: usize) -> &'a mut [u64] {
+unsafe fn lent<'a, T>(at: *mut T, len: usize) -> &'a mut [T] {
     if at.is_null() { &mut [] } else { unsafe { from_raw_parts_mut(at, len) } }
 }
 
-unsafe fn lent_to_read<'a>(at: *const u64, len: usize) -> &'a [u64] {
+unsafe fn lent_to_read<'a, T>(at: *const T, len: usize) -> &'a [T] {
     if at.is_null() { &[] } else { unsafe { from_raw_parts(at, len) } }
 }
 

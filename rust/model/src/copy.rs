@@ -30,7 +30,7 @@ pub fn run(sound: Sound, head: &mut [u64; HEAD], elems: &mut [u64], shared: &mut
     }
 }
 
-fn is_shaped(head: &Head, elems: &[u64], shared: &[u64]) -> bool {
+pub(crate) fn is_shaped(head: &Head, elems: &[u64], shared: &[u64]) -> bool {
     fits(head.elems.capacity, FRAME, elems.len()) && fits(head.shared.capacity, HEADER, shared.len())
 }
 

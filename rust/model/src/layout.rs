@@ -89,7 +89,9 @@ pub enum Refusal {
     NoElement,
     NoShared,
     Short,
+    NoFile,
     Nothing,
+    OtherVersion,
     Sealed,
     OutOfRange,
 }
@@ -105,7 +107,9 @@ impl Refusal {
             Refusal::NoElement => 5,
             Refusal::NoShared => 6,
             Refusal::Short => 7,
+            Refusal::NoFile => 9,
             Refusal::Nothing => 10,
+            Refusal::OtherVersion => 11,
             Refusal::Sealed => 12,
             Refusal::OutOfRange => 13,
         }

@@ -9,6 +9,7 @@
 //! - [ordered]: compression in slot order
 //! - [undo]: the last union taken back
 //! - [copy]: a study copied to other tables
+//! - [file]: run files, written and read
 //! - [check]: the soundness check, linear
 //! - [sets]: soundness sentence by sentence, by sets, to test the check with
 //! - [described]: the sentence of soundness about what the head remembers, by taking the union back and making it again
@@ -20,6 +21,7 @@ pub mod copy;
 pub mod described;
 pub mod door;
 pub mod figures;
+pub mod file;
 pub mod layout;
 pub mod ordered;
 pub mod rows;

@@ -2,7 +2,11 @@
 
 pub mod chains;
 pub mod copies;
+pub mod fences;
+pub mod files;
 pub mod memories;
+pub mod mutated;
+pub mod pages;
 pub mod random;
 
 use doorsedge::sys::*;

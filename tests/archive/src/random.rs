@@ -1,9 +1,11 @@
 //! A seeded run of calls: on grown states, on states with some numbers changed, and on random numbers for tables, head and
 //! keys. Every call is compared with the model in every number.
 
+use crate::files::Desk;
 use crate::memories::forged;
 use crate::{Host, key};
 use model::door::{Call, KINDS};
+use model::file::file_len;
 use model::layout::{CLASS, SIZE, TOTAL};
 use model::{FRAME, HEAD, HEADER, Key, PAIR, PLACE, RECORD, SEAL_PLACE};
 use std::collections::BTreeMap;
@@ -60,8 +62,8 @@ impl Random {
 pub struct Tally(pub BTreeMap<&'static str, BTreeMap<u64, u64>>);
 
 /// What an entry can return but 0, in its columns: number and cause.
-pub const GIVEN: [(u64, u64); 11] =
-    [(1, 0), (2, 0), (10, 0), (3, 1), (3, 2), (3, 3), (4, 0), (12, 0), (6, 0), (5, 0), (7, 0)];
+pub const GIVEN: [(u64, u64); 13] =
+    [(1, 0), (2, 0), (9, 0), (10, 0), (11, 0), (3, 1), (3, 2), (3, 3), (4, 0), (12, 0), (6, 0), (5, 0), (7, 0)];
 
 impl Tally {
     fn add(&mut self, entry: &'static str, result: u64) {
@@ -90,7 +92,14 @@ pub fn compare(calls: u64, seed: u64) -> Tally {
     let mut r = Random::new(seed);
     let mut tally = Tally::default();
     let (mut grown, mut review) = (Host::fresh(4, 3), Host::fresh(4, 3));
+    let mut desk = Desk::with_room(1 << 16);
     for _ in 0..calls {
+        if r.one_in(32) {
+            let [written, read] = filed(&mut desk, &mut grown, &mut r);
+            tally.add("write_file", written);
+            tally.add("read_file", read);
+            continue;
+        }
         if r.one_in(24) {
             let result = copied(&mut grown, &mut review, &mut r);
             tally.add("clone_from", result);
@@ -136,6 +145,36 @@ fn copied(grown: &mut Host, review: &mut Host, r: &mut Random) -> u64 {
         (*grown, *review) = if r.one_in(4) { (target, source) } else { (source, target) };
     }
     result
+}
+
+/// A study written, in about as many bytes as it needs, and the bytes read, sometimes with one of them changed, into tables of another
+/// state, a changed one or noise. What was read goes on.
+fn filed(desk: &mut Desk, grown: &mut Host, r: &mut Random) -> [u64; 2] {
+    let source = match r.below(8) {
+        0 => noise(r),
+        1 | 2 => damaged(grown, r),
+        _ => grown.clone(),
+    };
+    let needed = file_len(source.head[7].min(100) as usize, source.head[3].min(100) as usize);
+    let room = (needed + r.of(&[0, 0, 0, 1, 9])).saturating_sub(r.of(&[0, 0, 0, 0, 1, 30]));
+    let written = desk.write(&source, &vec![0x5A; room]);
+    let mut file = written.lent;
+    file.truncate(if written.number == 0 { written.out as usize } else { room });
+    if !file.is_empty() && r.one_in(6) {
+        let at = r.below(file.len() as u64) as usize;
+        file[at] ^= 1 << r.below(8);
+    }
+    let mut target = match r.below(8) {
+        0 => noise(r),
+        1 => damaged(grown, r),
+        2 | 3 => grown.clone(),
+        _ => about_as_large(&source, r),
+    };
+    let read = desk.read(&mut target, &file);
+    if read == 0 && r.one_in(2) {
+        *grown = target;
+    }
+    [written.number, read]
 }
 
 /// Tables of any numbers, each as large as the source's last live slot, or up to three slots more or less.

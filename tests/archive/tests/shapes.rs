@@ -227,8 +227,10 @@ fn random_numbers() {
         let sealed = ["insert", "insert_in_place", "union", "seal"].contains(&name);
         assert_eq!(had(12), sealed, "{name}: {counts:?}");
         assert_eq!(had(10), name == "undo", "{name}: {counts:?}");
+        assert_eq!([9, 11].map(had), [name == "read_file"; 2], "{name}: {counts:?}");
+        assert_eq!(had(2), !["fresh", "read_file"].contains(&name), "{name}: {counts:?}");
         let room: &[u64] = match name {
-            "clone_from" | "insert_surject" => &[5, 6],
+            "clone_from" | "insert_surject" | "read_file" => &[5, 6],
             "insert" | "insert_in_place" => &[5],
             _ => &[],
         };
@@ -243,7 +245,9 @@ fn random_numbers() {
             "drain_all",
             "fresh",
             "insert_surject",
+            "read_file",
             "undo",
+            "write_file",
         ];
         let causes = [0, 1, 2, 3, 4].map(|cause| had(3 + 256 * cause));
         assert_eq!(

@@ -1,9 +1,10 @@
 //! Canonical compression's follow of class entries is a recursion in the source. It must be a loop in the archive: its
 //! longest way, 65,535 steps, has to run in a small stack. So has the compression in slot order, where every row moves, the
-//! largest union with its undo, and the largest copy.
+//! largest union with its undo, the largest copy, and the largest files, written and read.
 
 use archive::copies::copy_at;
 use archive::{Lent, head, run};
+use doorsedge::sys::{doorsedge_read_file, doorsedge_write_file};
 use model::door::Call;
 use model::{FRAME, HEADER, PAIR};
 
@@ -99,6 +100,40 @@ fn copied() {
 #[test]
 fn the_largest_copy_in_a_small_stack() {
     in_a_small_stack(copied);
+}
+
+/// Rings of one, the headers the other way round, and one ring of all.
+fn written_and_read() {
+    let alone = head([FRAMES, FRAMES, 0, FRAMES, FRAMES, FRAMES, 0, FRAMES, 7]);
+    let one_ring = head([FRAMES, FRAMES, 0, FRAMES, FRAMES, 1, 0, 1, 7]);
+    let last = |slot: u64| if slot == 1 { FRAMES } else { slot - 1 };
+    let next = |slot: u64| slot % FRAMES + 1;
+    let mut rows: Vec<u64> = (1..=FRAMES).flat_map(|slot| [7, slot, FRAMES + 1 - slot, slot, slot, 3]).collect();
+    let mut headers: Vec<u64> = (1..=FRAMES).flat_map(|slot| [1, slot, 0, 1, 3]).collect();
+    for (mut numbers, length) in [(alone, 8 + 40 * FRAMES), (one_ring, 8 + 28 + 12 * FRAMES)] {
+        if numbers == one_ring {
+            rows = (1..=FRAMES).flat_map(|slot| [7, slot, 1, last(slot), next(slot), 3]).collect();
+            headers.fill(0);
+            headers[..HEADER].copy_from_slice(&[FRAMES, 9, 0, 0, 3 * FRAMES]);
+        }
+        let (mut file, mut out, e, s) = (vec![0u8; length as usize], [0], rows.len(), headers.len());
+        // Safety: pointers and lengths are those of vectors, each apart
+        unsafe {
+            let (head, rows, headers) = (&mut numbers, rows.as_mut_ptr(), headers.as_mut_ptr());
+            assert_eq!(doorsedge_write_file(head, rows, e, headers, s, file.as_mut_ptr(), file.len(), &mut out), 0);
+            assert_eq!(out, [length]);
+            assert_eq!(doorsedge_read_file(head, rows, e, headers, s, file.as_ptr(), file.len()), 0);
+        }
+        let mut again = vec![0u8; file.len()];
+        assert_eq!(numbers[..9], head([FRAMES, FRAMES, 0, FRAMES, FRAMES, numbers[5], 0, numbers[5], 1])[..9]);
+        let said = model::file::write(model::check::sound, &numbers, &rows, &headers, &mut again);
+        assert!(said == Ok(length) && again == file);
+    }
+}
+
+#[test]
+fn the_largest_files_in_a_small_stack() {
+    in_a_small_stack(written_and_read);
 }
 
 fn in_a_small_stack(test: impl FnOnce() + Send + 'static) {
