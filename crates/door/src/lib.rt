@@ -22,6 +22,7 @@ pub use door_runs::remove_element;
 pub use door_runs::undo;
 pub use door_runs::union;
 pub use door_two::clone_from;
+pub use door_two::transfer_canonical;
 pub use door_whole::clear;
 pub use door_whole::compress_canonical;
 pub use door_whole::compress_with;

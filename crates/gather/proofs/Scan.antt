@@ -21,6 +21,7 @@ use Rattle.rules.proofs.laws.Soundness.{Shaped, shaped-of}
 use Rattle.rules.proofs.laws.Safe.{working}
 use Rattle.rules.proofs.laws.Order.{Looked, free, first, later, looked, Led, Scanned, scanned, not-led, is-led, framesTo, frames-more, frames-to, frames-listed}
 use Rattle.rules.proofs.laws.Compress.{listed-live, live-fits}
+use Rattle.rules.proofs.laws.Past.{Empty, empty-of, zeros-of, past-elems}
 use Rattle.rules.proofs.laws.Blocks.{frames-ring, ring-length, block-at, block-live, block-next, block-prev}
 use Rattle.slots.specs.Asked.{Within}
 use Rattle.copies.specs.Parts.{Holds, Copiable, copiedFrame, Copied}
@@ -29,10 +30,14 @@ use Rattle.gather.specs.Elements.{Visitable, Visit, passed, met, carried
 pub order-fits : (st : State) → Ready st → length (canonicalFrames st) ≤ st .head .elems .capacity
 order-fits st R = let W = working st R in rw (listed-live (W .elems) (canonicalFrames st) (frames-listed st W)) (live-fits (W .elems))
 
+-- there is room for what lives where there is room for every slot
+pub enough-rows : (st : State) → Ready st → (n : ℕ) → st .head .elems .capacity * frameWidth ≤ n → st .head .elems .live * frameWidth ≤ n
+enough-rows st R n h = omega (arith, live-fits (working st R .elems))
+
 -- THE INVARIANT of the scan: `k` slots are looked at, `t` frames copied
 pub record Gathering (st : State) (sc₀ : List ℕ) (g : ℕ) (e sc : List ℕ) (k t : ℕ) : Type 0 where
   pub ready : Ready st
-  pub room : st .head .elems .capacity * frameWidth ≤ length sc₀
+  pub room : st .head .elems .live * frameWidth ≤ length sc₀
   pub high : k ≤ st .head .elems .extent
   pub count : t ≡ length (framesTo st k)
   pub long : length e ≡ length (st .elems)
@@ -44,7 +49,7 @@ pub record Gathering (st : State) (sc₀ : List ℕ) (g : ℕ) (e sc : List ℕ)
   pub still : (f s : ℕ) → f < frameWidth → t < s → cell frameWidth sc f s ≡ cell frameWidth sc₀ f s
   pub wide : length sc ≡ length sc₀
 
-pub gathering-start : (st : State) (sc : List ℕ) (g : ℕ) → Ready st → st .head .elems .capacity * frameWidth ≤ length sc → Gathering st sc g (st .elems) sc 0 0
+pub gathering-start : (st : State) (sc : List ℕ) (g : ℕ) → Ready st → st .head .elems .live * frameWidth ≤ length sc → Gathering st sc g (st .elems) sc 0 0
 gathering-start st sc g R h = record
     { ready = R; room = h; high = omega arith; count = refl; long = refl; others = λ f h n. refl; hit = λ x m. absurd m; miss = λ x o. refl; frames = λ u l. absurd (omega arith); still = λ f s h l. refl; wide = refl }
 
@@ -123,7 +128,7 @@ module _ (st : State) (sc₀ : List ℕ) (g : ℕ) (e sc : List ℕ) (k t : ℕ)
         let o = order-fits st (R .ready) in
         record {
           slots = λ i b. rw nexts (let q = live-in (W .elems) (steps (v .next) i (suc k)) (block-live st W k l (p .0) (p .1) i b) in record { some = q .0; inside = omega (arith, q .1, W .elems .fits, H .elems .long, R .long) });
-          room = omega (arith, fits, o, R .room, R .wide);
+          room = omega (arith, fits, listed-live (W .elems) (canonicalFrames st) (frames-listed st W), R .room, R .wide);
           small = omega (arith, fits, o, H .elems .small);
         }
 
@@ -202,7 +207,19 @@ module _ (st : State) (sc₀ : List ℕ) (g : ℕ) (e sc : List ℕ) (k t : ℕ)
   gathering-next e′ sc′ r (passed a q w z) = rw (q, w, z) (next-passed a)
   gathering-next e′ sc′ r (met a C z) = rw (z, size-is a) (next-met a e′ sc′ (rw (size-is a) at C))
 
+-- past the extent nothing was met, and all is zero still
+gathering-past : (st : State) (sc₀ : List ℕ) (g : ℕ) (e sc : List ℕ) (k t : ℕ) → Gathering st sc₀ g e sc k t → (j : ℕ) → st .head .elems .extent * frameWidth ≤ j → getD e j 0 ≡ 0
+gathering-past st sc₀ g e sc k t R = zeros-of frameWidth e (st .head .elems .extent) (omega arith) (λ f s h l. go f s h l (ℕ-discrete f (frameAt .generation)) (in-dec ℕ-discrete s (framesTo st k)))
+  where
+    was : Empty frameWidth (st .elems) (st .head .elems .extent)
+    was = empty-of frameWidth (st .elems) (st .head .elems .extent) (past-elems st (R .ready))
+
+    go : (f s : ℕ) → f < frameWidth → st .head .elems .extent < s → Dec (f ≡ frameAt .generation) → Dec (In s (framesTo st k)) → cell frameWidth e f s ≡ 0
+    go f s h l (yes z) (yes m) = rw z (R .hit s m)
+    go f s h l (yes z) (no m) = rw z (R .miss s (out-of s (framesTo st k) m) ∙ was (frameAt .generation) s (omega arith) l)
+    go f s h l (no n) d = ap (λ (c : ℕ → ℕ). c s) (R .others f h n) ∙ was f s h l
+
 pub gathering-done : (st : State) (sc₀ : List ℕ) (g : ℕ) (e sc : List ℕ) (k t : ℕ) → Gathering st sc₀ g e sc k t → st .head .elems .extent ≤ k → Gathered st sc₀ g e sc t
 gathering-done st sc₀ g e sc k t R d =
     let z : k ≡ st .head .elems .extent = omega (arith, R .high) in
-    record { all = rw z at (R .count) ∙ ap length (sym (frames-to st)); long = R .long; frames = R .frames; still = R .still; wide = R .wide }
+    record { all = rw z at (R .count) ∙ ap length (sym (frames-to st)); long = R .long; past = gathering-past st sc₀ g e sc k t R; frames = R .frames; still = R .still; wide = R .wide }

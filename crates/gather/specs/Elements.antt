@@ -22,6 +22,11 @@ pub data Visit (e sh sc : List ℕ) (s t g : ℕ) (e′ sc′ : List ℕ) (r : �
   passed : generationOf e s ≡ 0 → e′ ≡ e → sc′ ≡ sc → r ≡ t → Visit e sh sc s t g e′ sc′ r
   met : generationOf e s ≢ 0 → Copied e sc s t (countOf sh (classOf e s)) (countOf sh (classOf e s)) g e′ sc′ → r ≡ t + countOf sh (classOf e s) → Visit e sh sc s t g e′ sc′ r
 
+-- a ready state, and a row for each frame: of the scratch, or of the table that the frames go to
+pub record Gatherable (h : Head) (e s sc : List ℕ) : Type 0 where
+  pub ready : Ready (stateOf h e s)
+  pub scratch : h .elems .live * frameWidth ≤ length sc
+
 -- a ready state, and a scratch row for each element slot
 pub record Enough (h : Head) (e s sc : List ℕ) : Type 0 where
   pub ready : Ready (stateOf h e s)
@@ -41,6 +46,8 @@ Moved st g t u = Holds frameWidth t (suc u) (carriedFrame st g (getD (canonicalF
 pub record Gathered (st : State) (sc₀ : List ℕ) (g : ℕ) (e sc : List ℕ) (n : ℕ) : Type 0 where
   pub all : n ≡ length (canonicalFrames st)
   pub long : length e ≡ length (st .elems)
+  -- past the extent the table is zero still
+  pub past : (j : ℕ) → st .head .elems .extent * frameWidth ≤ j → getD e j 0 ≡ 0
   pub frames : (u : ℕ) → u < n → Moved st g sc u
   pub still : (f s : ℕ) → f < frameWidth → n < s → cell frameWidth sc f s ≡ cell frameWidth sc₀ f s
   pub wide : length sc ≡ length sc₀

@@ -21,13 +21,15 @@ use Rattle.rules.specs.Calls.{Call, Is, AtDoor, freshStep}
 use Rattle.rules.specs.ReadFile.{readStep}
 use Rattle.rules.proofs.laws.Tests.{eq-is}
 use Rattle.rules.proofs.laws.Refused.{refused-changes-nothing, refused-fresh, refused-read}
-use Rattle.numbers.specs.Numbers.{headOf, values, Answered}
+use Rattle.numbers.specs.Numbers.{headOf, values, Answered, valuesOver}
 use Rattle.promises.specs.Host.{Left, left, shown, AtHost, AtFresh, AtRead}
 use Rattle.rules.specs.TwoTables.{TwoOutcome}
 use Rattle.rules.specs.Copy.{AtCopy}
+use Rattle.rules.specs.Move.{AtMove}
 use Rattle.rules.proofs.laws.Copying.{copying}
+use Rattle.rules.proofs.laws.Moving.{moving}
 use Rattle.promises.specs.InPlace.{AtHead, leftAt}
-use Rattle.promises.specs.Two.{leftTwo, AtHostCopy}
+use Rattle.promises.specs.Two.{leftTwo, AtHostCopy, AtHostMove}
 use Rattle.numbers.proofs.Told.{small}
 
 -- a refused call, whose number is not 0, hands back the head that it was given: so that the head is the next one also where it was not stored
@@ -110,6 +112,27 @@ module _ (head elems shared fromHead fromElems fromShared : List ℕ) where
         outcome = record { said = said; target = stateOf next elems′ shared′; source = stateOf (headOf fromHead) fromElems fromShared };
         door = rw (p, f) at d;
         same = λ i. record { number = a .number i; target = stateOf (same i) elems′ shared′; source = stateOf (headOf fromHead) fromElems fromShared; out = a .out i };
+      }
+
+-- the same of the move: both heads are stored if it was accepted
+module _ (g : ℕ) (head elems shared fromHead fromElems fromShared out : List ℕ) where
+  pub moved-to : (h source next left : Head) (said : Said) (r : ℕ) (after elems′ shared′ from frames′ headers′ out′ : List ℕ)
+      → h ≡ headOf head → source ≡ headOf fromHead
+      → AtMove (stateOf h elems shared) (stateOf source fromElems fromShared) g (record { said = said; target = stateOf next elems′ shared′; source = stateOf left frames′ headers′ })
+      → Answered valuesOver said out r out′
+      → headOf after ≡ (if r == 0 then next else headOf head)
+      → headOf from ≡ (if r == 0 then left else headOf fromHead)
+      → AtHostMove g head elems shared fromHead fromElems fromShared out (leftTwo r after elems′ shared′ from frames′ headers′ out′)
+  moved-to h source next left said r after elems′ shared′ from frames′ headers′ out′ p f d a q w =
+      let o : TwoOutcome = record { said = said; target = stateOf next elems′ shared′; source = stateOf left frames′ headers′ } in
+      let T = moving (stateOf h elems shared) (stateOf source fromElems fromShared) g o d in
+      let not-zero : r ≢ 0 → said .number ≢ 0 = λ n e. n (a .number ∙ small said 0 (lit< tt) .1 e) in
+      let same : headOf after ≡ next = q ∙ kept r next (headOf head) (λ n. ap (λ (st : State). st .head) (T .refused (not-zero n) .0) ∙ p) in
+      let alike : headOf from ≡ left = w ∙ kept r left (headOf fromHead) (λ n. ap (λ (st : State). st .head) (T .refused (not-zero n) .1) ∙ f) in
+      record {
+        outcome = o;
+        door = rw (p, f) at d;
+        same = λ i. record { number = a .number i; target = stateOf (same i) elems′ shared′; source = stateOf (alike i) frames′ headers′; out = a .out i };
       }
 
 -- the same of an entry whose head is lent in place

@@ -8,11 +8,11 @@ use Rattle.rules.specs.Refusals.{Said}
 use Rattle.rules.specs.Calls.{Call}
 use Rattle.rules.proofs.Door
 use Rattle.rules.proofs.laws.TwoDoors.{two-only}
-use Rattle.numbers.specs.Numbers.{values}
+use Rattle.numbers.specs.Numbers.{values, valuesOver}
 use Rattle.numbers.proofs.Thirteen.{only-thirteen}
 use Rattle.promises.specs.Host.{Left, left, shown, AtHost, AtFresh, AtRead}
 use Rattle.promises.specs.InPlace.{leftAt, AtHead}
-use Rattle.promises.specs.Two.{TwoLeft, leftTwo, shownTwo, AtHostCopy}
+use Rattle.promises.specs.Two.{TwoLeft, leftTwo, shownTwo, AtHostCopy, AtHostMove}
 
 -- equal in all that a host lent or was given: the result, the head, both tables, the buffer and `out`
 pub record Same {H : Type 0} (r r′ : ℕ) (h h′ : H) (e e′ s s′ l l′ o o′ : List ℕ) : Type 0 where
@@ -112,3 +112,11 @@ pub only-at-copy : (head elems shared fromHead fromElems fromShared : List ℕ) 
 only-at-copy head elems shared fromHead fromElems fromShared r r′ h h′ e e′ s s′ k k′ f f′ g g′ n n′ m m′ p q =
     told-two r r′ h h′ e e′ s s′ k k′ f f′ g g′ [] [] n n′ m m′
     (p .same ∙ ap (shownTwo values []) (two-only _ _ _ _ (p .outcome) (q .outcome) (p .door) (q .door)) ∙ sym (q .same))
+
+pub only-at-move : (i : ℕ) (head elems shared fromHead fromElems fromShared out : List ℕ) (r r′ : ℕ) (h h′ e e′ s s′ k k′ f f′ g g′ o o′ : List ℕ) → length h ≡ 13 → length h′ ≡ 13 → length k ≡ 13 → length k′ ≡ 13
+    → AtHostMove i head elems shared fromHead fromElems fromShared out (leftTwo r h e s k f g o)
+    → AtHostMove i head elems shared fromHead fromElems fromShared out (leftTwo r′ h′ e′ s′ k′ f′ g′ o′)
+    → Same r r′ h h′ e e′ s s′ [] [] o o′ × Same r r′ k k′ f f′ g g′ [] [] o o′
+only-at-move i head elems shared fromHead fromElems fromShared out r r′ h h′ e e′ s s′ k k′ f f′ g g′ o o′ n n′ m m′ p q =
+    told-two r r′ h h′ e e′ s s′ k k′ f f′ g g′ o o′ n n′ m m′
+    (p .same ∙ ap (shownTwo valuesOver out) (two-only _ _ _ _ (p .outcome) (q .outcome) (p .door) (q .door)) ∙ sym (q .same))

@@ -18,8 +18,8 @@ use Rattle.rules.specs.Calls.{Call, lenSurject, inSameSurject, getElement, getS
 use Rattle.rules.specs.Bytes.{Bytes}
 use Rattle.rules.specs.ReadFile.{readFile, oldReader, readStep, runsOf}
 use Rattle.rules.specs.RunFile.{StoredRun}
-use Rattle.rules.specs.History.{History, accepted, noted, notedFresh, nothing, begunWith, readInto, notedRead}
-use Rattle.rules.specs.Demand.{After, start, fresh, call, startRead, read, copy, Union}
+use Rattle.rules.specs.History.{History, accepted, noted, notedFresh, nothing, begunWith, readInto, notedRead, movedInto, notedTo, notedFrom}
+use Rattle.rules.specs.Demand.{After, start, fresh, call, startRead, read, copy, Union, startMove, moveTo, moveFrom}
 use Rattle.rules.proofs.laws.Rulings.{by-test, by-key}
 use Rattle.rules.specs.Copy.{cloneStep}
 use Rattle.rules.proofs.laws.TwoDoors.{both-pass}
@@ -31,7 +31,7 @@ use Rattle.numbers.proofs.Thirteen.{thirteenOf, head-of-thirteen}
 use Rattle.promises.specs.Host.{Left, left, shown, AtHost, AtRead}
 use Rattle.promises.specs.InPlace.{leftAt, AtHead}
 use Rattle.promises.specs.Two.{TwoLeft, leftTwo, shownTwo, AtHostCopy}
-use Rattle.promises.specs.Sequence.{numbersOf, heard, lentState, AfterEntries, begun, freshened, called, calledInPlace, begunRead, readIn, copied, Demand3AtHost}
+use Rattle.promises.specs.Sequence.{numbersOf, heard, lentState, AfterEntries, begun, freshened, called, calledInPlace, begunRead, readIn, copied, Demand3AtHost, begunMoved, movedTo, movedFrom}
 
 -- the history takes from the numbers in `out` what it takes from the answer: the key of a frame put in
 accepted-heard : (h : History) (c : Call) (said : Said) → accepted h c (numbersOf c said) ≡ accepted h c (said .values)
@@ -104,6 +104,15 @@ after-entries (readIn {head = head} {elems = elems} {shared = shared} {h = h} a 
 after-entries (copied {head = head} {elems = elems} {shared = shared} {h = h} a toHead toElems toShared head′ elems′ shared′ p) =
     subst (λ (l : TwoLeft). After (l .target) (begunWith h)) (sym (p .same))
     (copy (after-entries a) (lentState toHead toElems toShared) (p .outcome) (p .door) (small (p .outcome .said) 0 (lit< tt) .0 (sym (ap (λ (l : TwoLeft). l .number) (p .same)))))
+after-entries (begunMoved {h = h} a g toHead toElems toShared out head′ elems′ shared′ fromHead fromElems fromShared out′ p) =
+    subst (λ (l : TwoLeft). After (l .target) (movedInto nothing h g)) (sym (p .same))
+    (startMove (after-entries a) (lentState toHead toElems toShared) g (p .outcome) (p .door) (small (p .outcome .said) 0 (lit< tt) .0 (sym (ap (λ (l : TwoLeft). l .number) (p .same)))))
+after-entries (movedTo {h = h} {t = t} a b g r out head′ elems′ shared′ fromHead fromElems fromShared out′ p) =
+    subst (λ (l : TwoLeft). After (l .target) (notedTo t h g (heard (l .number) out′))) (sym (p .same))
+    (rw (zero-result (p .outcome .said)) (moveTo (after-entries a) (after-entries b) g (p .outcome) (p .door)))
+after-entries (movedFrom {h = h} a g r toHead toElems toShared out head′ elems′ shared′ fromHead fromElems fromShared out′ p) =
+    subst (λ (l : TwoLeft). After (l .source) (notedFrom h (heard (l .number) out′))) (sym (p .same))
+    (rw (zero-result (p .outcome .said)) (moveFrom (after-entries a) (lentState toHead toElems toShared) g (p .outcome) (p .door)))
 
 -- a first fresh over any head and tables that fit begins one
 pub begins : (elemCapacity sharedCapacity : ℕ) (head elems shared : List ℕ) → bothFit (lentState head elems shared) elemCapacity sharedCapacity ≡ true

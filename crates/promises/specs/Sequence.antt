@@ -9,12 +9,12 @@ use Rattle.rules.specs.Refusals.{Said}
 use Rattle.rules.specs.Calls.{Call, lenSurject, inSameSurject, getElement, getShared, getSize, getTotal, lookup, setElement, setShared, check, newRun, insert, union, remove, removeShared, list, drain, seal, drainAll, clear, undo, exchange, compress, compressWith, writeFile}
 use Rattle.rules.specs.Bytes.{Bytes}
 use Rattle.rules.specs.ReadFile.{runsOf}
-use Rattle.rules.specs.History.{History, noted, notedFresh, nothing, begunWith, readInto, notedRead}
+use Rattle.rules.specs.History.{History, noted, notedFresh, nothing, begunWith, readInto, notedRead, movedInto, notedTo, notedFrom}
 use Rattle.rules.specs.Demand.{Agrees, Union}
 use Rattle.numbers.specs.Numbers.{headOf, values, valuesOver, removalNumbers}
 use Rattle.promises.specs.Host.{Left, left, AtHost, AtFresh, AtRead}
 use Rattle.promises.specs.InPlace.{leftAt, AtHead}
-use Rattle.promises.specs.Two.{leftTwo, AtHostCopy}
+use Rattle.promises.specs.Two.{leftTwo, AtHostCopy, AtHostMove}
 
 -- the numbers that the entry of a call writes to `out`
 abbrev pub numbersOf : Call → Said → List ℕ
@@ -83,6 +83,19 @@ pub data AfterEntries : (head elems shared : List ℕ) → History → Type 0 wh
       → (toHead toElems toShared head′ elems′ shared′ : List ℕ)
       → AtHostCopy toHead toElems toShared head elems shared (leftTwo 0 head′ elems′ shared′ head elems shared [])
       → AfterEntries head′ elems′ shared′ (begunWith h)
+  -- Ticket 12: a move from such a head and tables: to any, when it answers 0; to such, whatever it answers; and what it is for the source
+  begunMoved : {head elems shared : List ℕ} {h : History} → AfterEntries head elems shared h
+      → (g : ℕ) (toHead toElems toShared out head′ elems′ shared′ fromHead fromElems fromShared out′ : List ℕ)
+      → AtHostMove g toHead toElems toShared head elems shared out (leftTwo 0 head′ elems′ shared′ fromHead fromElems fromShared out′)
+      → AfterEntries head′ elems′ shared′ (movedInto nothing h g)
+  movedTo : {head elems shared toHead toElems toShared : List ℕ} {h t : History} → AfterEntries head elems shared h → AfterEntries toHead toElems toShared t
+      → (g r : ℕ) (out head′ elems′ shared′ fromHead fromElems fromShared out′ : List ℕ)
+      → AtHostMove g toHead toElems toShared head elems shared out (leftTwo r head′ elems′ shared′ fromHead fromElems fromShared out′)
+      → AfterEntries head′ elems′ shared′ (notedTo t h g (heard r out′))
+  movedFrom : {head elems shared : List ℕ} {h : History} → AfterEntries head elems shared h
+      → (g r : ℕ) (toHead toElems toShared out head′ elems′ shared′ fromHead fromElems fromShared out′ : List ℕ)
+      → AtHostMove g toHead toElems toShared head elems shared out (leftTwo r head′ elems′ shared′ fromHead fromElems fromShared out′)
+      → AfterEntries fromHead fromElems fromShared (notedFrom h (heard r out′))
 
 pub record Demand3AtHost : Type 0 where
   -- no entry but fresh answers 1 or 2: what follows is of the calls, and not of refusals

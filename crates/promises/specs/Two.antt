@@ -7,7 +7,8 @@ use Rattle.rules.specs.Tables.{State, stateOf}
 use Rattle.rules.specs.Refusals.{Said}
 use Rattle.rules.specs.TwoTables.{TwoOutcome}
 use Rattle.rules.specs.Copy.{AtCopy}
-use Rattle.numbers.specs.Numbers.{headOf, values, resultOf}
+use Rattle.rules.specs.Move.{AtMove}
+use Rattle.numbers.specs.Numbers.{headOf, values, valuesOver, resultOf}
 
 -- what such an entry leaves: its result, both heads and their tables, and the numbers of its answer
 pub record TwoLeft : Type 0 where
@@ -30,3 +31,9 @@ pub record AtHostCopy (head elems shared fromHead fromElems fromShared : List �
   pub outcome : TwoOutcome
   pub door : AtCopy (stateOf (headOf head) elems shared) (stateOf (headOf fromHead) fromElems fromShared) outcome
   pub same : after ≡ shownTwo values [] outcome
+
+-- Ticket 12: the promise of the move, which tells the source's overflow
+pub record AtHostMove (g : ℕ) (head elems shared fromHead fromElems fromShared out : List ℕ) (after : TwoLeft) : Type 0 where
+  pub outcome : TwoOutcome
+  pub door : AtMove (stateOf (headOf head) elems shared) (stateOf (headOf fromHead) fromElems fromShared) g outcome
+  pub same : after ≡ shownTwo valuesOver out outcome

@@ -45,10 +45,10 @@ into a b =
     (s 0 0 3 ++ mz 2 200 0 21 ++ s 0 0 0 ++ mz 1 400 1 11 ++ zeros headerWidth (b - 4))
 
 -- a source whose every slot is live, and one where only the first is
-abbrev full : State
+abbrev pub full : State
 full = at (pool 2 2 0 2) (pool 1 1 0 1) 9 (e 9 10 1 2 2 ++ e 8 11 1 1 1) (s 2 100 0)
 
-abbrev first : State
+abbrev pub first : State
 first = at (pool 3 3 2 1) (pool 2 1 0 1) 4294967295 (e 7 10 1 1 1 ++ e 0 0 0 0 3 ++ e 0 0 0 0 0) (s 1 100 0 ++ zeros headerWidth 1)
 
 -- the copy of a source just after a union
@@ -66,10 +66,10 @@ infix 90 _copies_
 pub data CopyCase : Type 0 where
   _copies_ : (did says : TwoOutcome) → CopyCase
 
-abbrev made : CopyCase → TwoOutcome
+abbrev pub made : CopyCase → TwoOutcome
 made (d copies s) = d
 
-abbrev meant : CopyCase → TwoOutcome
+abbrev pub meant : CopyCase → TwoOutcome
 meant (d copies s) = s
 
 abbrev table : List CopyCase

@@ -16,12 +16,14 @@ use Rattle.rules.specs.Slots.{empty, raised}
 use Rattle.rules.specs.Calls.{Call, newRun, remove, drainAll, clear, compress, compressWith, step, freshStep}
 use Rattle.rules.specs.Copy.{cloneStep}
 use Rattle.rules.specs.ReadFile.{readStep}
+use Rattle.rules.specs.Move.{transferStep}
 use Rattle.rules.specs.Demand.{Sequence, fromFresh, andThen}
 use Rattle.rules.specs.Stale.{Ends, answer, Quietly, call, Since, given, begun, Later, now, later, TakenOut, taken, cleared}
 use Rattle.rules.proofs.Cases.{rules, key}
 use Rattle.rules.proofs.Worked.{fresh43}
 use Rattle.rules.proofs.CasesCopied.{copies}
 use Rattle.rules.proofs.CasesFile.{files, u4}
+use Rattle.rules.proofs.CasesTransferred.{moves}
 use Rattle.rules.proofs.laws.Tests.{eq-is, is-false}
 use Rattle.rules.proofs.laws.DemandThree.{goes-on}
 use Rattle.rules.proofs.laws.Marks.{rises}
@@ -151,6 +153,11 @@ by-copy = back _ false 2 at-once (refl, refl)
 pub by-read : BroughtBack (λ st. readStep st (u4 1 ++ u4 0)) false
 unfolding rules files
 by-read = back _ false 2 at-once (refl, refl)
+
+-- Ticket 12: and so is a move to it
+pub by-move : BroughtBack (λ st. let o = transferStep st (empty 1 1 1) 1 in record { said = o .said; state = o .target; lent = [] }) false
+unfolding rules copies moves
+by-move = back _ false 2 at-once (refl, refl)
 
 -- the clear's answer says overflow
 pub by-overflow : BroughtBack (λ st. step st [] clear) true

@@ -96,3 +96,5 @@ pub mod Copied
 pub mod Copy
 pub mod CopyReads
 pub mod Copying
+pub mod Move
+pub mod Moving

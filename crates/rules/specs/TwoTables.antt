@@ -5,6 +5,7 @@ use mathlib.Core.Logic.{_⊎_}
 use mathlib.Core.Bool.{Bool, true}
 use mathlib.Core.List.{List, []}
 use Rattle.rules.specs.declared.HeadDone.{HeadDone}
+use Rattle.rules.specs.declared.HeadsDone.{HeadsDone}
 use Rattle.rules.specs.declared.Refusal.{Refusal}
 use Rattle.rules.specs.declared.Refusal.the-variants.{Shape, Unsound}
 use Rattle.rules.specs.Notation.{if_then_else_}
@@ -32,6 +33,10 @@ twoOutcome target source (accept over target′ source′) = record { said = sai
 -- the result of a call that leaves the source alone, and what then stands in the target's tables
 abbrev pub afterTarget : HeadDone → (elems shared : List ℕ) → (source : State) → TwoOutcome
 afterTarget r elems shared source = record { said = saidDone (r .answer) (r .over); target = stateOf (r .head) elems shared; source = source }
+
+-- and that of a call that changes both
+abbrev pub afterBoth : HeadsDone → (elems shared fromElems fromShared : List ℕ) → TwoOutcome
+afterBoth r elems shared fromElems fromShared = record { said = saidDone (r .answer) (r .over); target = stateOf (r .head) elems shared; source = stateOf (r .source) fromElems fromShared }
 
 -- Order: 1 for the source, 1 for the target; then 2, told whether all that must be sound is
 unfoldable pub twoDoors : (target source : State) → (sound : Bool) → TwoRuling → TwoRuling

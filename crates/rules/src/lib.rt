@@ -340,6 +340,14 @@ pub struct HeadDone {
     pub over: bool,
 }
 
+// Ticket 12: the same of a step that changes both heads.
+pub struct HeadsDone {
+    pub head: Head,
+    pub source: Head,
+    pub answer: Done,
+    pub over: bool,
+}
+
 pub struct HeadNumber {
     pub head: Head,
     pub answer: Number,

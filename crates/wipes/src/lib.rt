@@ -34,7 +34,7 @@ fn zero(t: &mut [u64], many: u64)
 }
 
 // Rules 2 and 12: zero tables of so many slots, and the head over them; past the first `used` and `classed` slots they are zero already.
-fn blank(
+pub fn blank(
     frames: u64,
     headers: u64,
     generation: u64,

@@ -20,7 +20,7 @@ use Rattle.rules.specs.ReadFile.{readTables, readFile, oldReader, readSt
 use Rattle.rules.specs.TwoTables.{TwoOutcome}
 use Rattle.rules.specs.Copy.{AtCopy}
 use Rattle.rules.specs.History.{History, frames, runOf, othersOf, noted, nothing, begunWith, readInto, notedRead}
-use Rattle.rules.specs.Demand.{After, start, fresh, call, startRead, read, copy, rewrites, Union, Demand3}
+use Rattle.rules.specs.Demand.{After, start, fresh, call, startRead, read, copy, rewrites, Union, Demand3, startMove, moveTo, moveFrom}
 use Rattle.rules.proofs.Door
 use Rattle.rules.proofs.Exactly.{exactly-1, exactly-2}
 use Rattle.rules.proofs.laws.Tests.{eq-is, le-is, is-so, is-not}
@@ -37,6 +37,7 @@ use Rattle.rules.proofs.laws.Histories.Copied.{good-copied}
 use Rattle.rules.proofs.laws.ReadSound.{readable}
 use Rattle.rules.proofs.laws.ReadRules.{accepted-read, runs-of}
 use Rattle.rules.proofs.laws.Histories.Read.{good-readTables}
+use Rattle.rules.proofs.laws.Moving.{good-move-in, good-move-to, good-move-from}
 use Rattle.rules.proofs.laws.EveryCall.{call-follows}
 use Rattle.rules.proofs.laws.Recalls.{Recalls, remembers, call-recalls, start-recalls, fresh-recalls}
 use Rattle.rules.proofs.laws.UnionFrame.{third-frames, third-headers, rewrites-run}
@@ -103,6 +104,9 @@ after-both (call a lent c o d) = let r = after-both a in good-call (r .0) (r .1)
 after-both (startRead st file b e) = read-goes st nothing file b e refl
 after-both (read a file b) = let r = after-both a in good-read (r .0) (r .1) file b
 after-both (copy a target o d e) = good-copy (after-both a .0) target o d e
+after-both (startMove a target g o d e) = good-move-in (after-both a .0) target nothing refl g o d e
+after-both (moveTo a t g o d) = let r = after-both t in good-move-to (after-both a .0) (r .0) (r .1) g o d
+after-both (moveFrom a target g o d) = let r = after-both a in good-move-from (r .0) (r .1) target g o d
 
 pub after-good : {st : State} {h : History} → After st h → Good st h
 after-good a = after-both a .0

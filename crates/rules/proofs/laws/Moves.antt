@@ -42,7 +42,7 @@ use Rattle.rules.proofs.laws.Working.{View, view, Working}
 use Rattle.rules.proofs.laws.Safe.{working}
 use Rattle.rules.proofs.laws.Fronted.{in-over, same-in, same-back}
 use Rattle.rules.proofs.laws.Rep.{keyAt, LiveKey, Rep, slots-apart, held}
-use Rattle.rules.proofs.laws.Headers.{live-runs}
+use Rattle.rules.proofs.laws.Headers.{live-runs, live-frames}
 use Rattle.rules.proofs.laws.Good.{Good, live-of, key-fronted, size-from}
 use Rattle.rules.proofs.laws.Rulings.{by-test, by-key, by-keys}
 use Rattle.rules.proofs.laws.Histories.Union.{both-fronted, in-exchange}
@@ -80,16 +80,6 @@ module _ (h : History) where
 
   fewer : (out rises : ℕ) (rs : List (List Key)) → ((k : Key) → In k (flat rs) → In k (flat (h .runs))) → h .generation < steps raised rises (h .generation) → Moves h (takingOut h out rises rs)
   fewer out rises rs back l = record { rises = omega arith; came = λ k m. inl (back k m); left = λ k m. inr l }
-
--- there are as many live frames as keys in the history
-pub live-frames : (v : View) (S : Working v) (rs : List (List Key)) → Rep v rs → v .head .elems .live ≡ length (flat rs)
-live-frames v S rs R =
-    let slot : Key → ℕ = λ k. k .slot in
-    sym (S .elems .number)
-    ∙ exact (map slot (flat rs)) (v .gen) (v .head .elems .extent) (nodup-image slot (LiveKey v) (flat rs) (λ a b la lb n. slots-apart v a b la lb n) (R .live) (R .once))
-    (all-image slot (λ s. (v .gen s ≢ 0) × (0 < s) × (s ≤ v .head .elems .extent)) (flat rs) (all-map (λ k l. let i = live-in (S .elems) (k .slot) (l .live) in (l .live, i .0, i .1)) (flat rs) (R .live)))
-    (λ s n. in-map slot (keyAt v s) (flat rs) (R .whole s n))
-    ∙ length-map (flat rs) slot
 
 -- whether a compression is asked to reset
 abbrev pub askedOf : {c : Call} → Compresses c → Bool

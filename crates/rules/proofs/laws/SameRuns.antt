@@ -26,7 +26,7 @@ use Rattle.rules.proofs.laws.Compress.{Order, byPlace, renumbers, renum
 
 -- the book's frames and headers are those of the columns
 module _ (st : State) where
-  frame-live : (s : ℕ) → Frame st s → view st .gen s ≢ 0
+  pub frame-live : (s : ℕ) → Frame st s → view st .gen s ≢ 0
   frame-live s f = live-of (elemSide st) s f .used
 
   header-live : (c : ℕ) → Header st c → view st .count c ≢ 0

@@ -1,7 +1,7 @@
 -- Ticket 8, proved: a removed frame's key stays dead.
 use mathlib.Core.Path.{_≡_, refl, sym, ap, _∙_, subst}
-use mathlib.Core.Logic.{_⊎_, inl, inr}
-use mathlib.Core.Bool.{Bool, false, _&&_, not}
+use mathlib.Core.Logic.{_≢_, _⊎_, inl, inr}
+use mathlib.Core.Bool.{Bool, true, false, _&&_, not}
 use mathlib.Core.List.{List, [], _∷_, _++_, map}
 use Prim.Native.Nat.{ℕ, suc, _+_, _≤_, _<_}
 use native.Mathlib.Omega.{arith}
@@ -11,9 +11,9 @@ use Rattle.rules.specs.declared.Found.{Found}
 use Rattle.rules.specs.declared.Found.the-variants.{Live, Dead}
 use Rattle.rules.specs.declared.Refusal.{Refusal}
 use Rattle.rules.specs.declared.Refusal.the-variants.{NoElement, NoShared, Short, Sealed}
-use Rattle.rules.specs.Notation.{along, flat}
+use Rattle.rules.specs.Notation.{along, flat, if_then_else_, _==_}
 use Rattle.rules.specs.Tables
-use Rattle.rules.specs.Tables.{frameWidth, State, found, sizeAt, sized, isSealed}
+use Rattle.rules.specs.Tables.{lastGeneration, frameWidth, State, found, sizeAt, sized, isSealed}
 use Rattle.rules.specs.Refusals
 use Rattle.rules.specs.Refusals.{Ruling, refuse, Outcome, outcome, whenLive}
 use Rattle.rules.specs.Reads
@@ -24,16 +24,24 @@ use Rattle.rules.specs.Drains
 use Rattle.rules.specs.Drains.{isShort, recordWidth}
 use Rattle.rules.specs.Compress
 use Rattle.rules.specs.Compress.{generationAfter, pairWidth}
-use Rattle.rules.specs.Calls.{Call, newRun, insert, remove, removeShared, drain, drainAll, clear, compress, compressWith, lookup, ruling, step, AtDoor}
+use Rattle.rules.specs.Calls.{Call, newRun, insert, remove, removeShared, drain, drainAll, clear, compress, compressWith, lookup, ruling, step, Is, AtDoor}
 use Rattle.rules.specs.Renaming.{Compresses, canonical, kept}
-use Rattle.rules.specs.History.{History, othersOf, runOf, runsBut, goingOn, insertedRuns, removedRuns, puttingIn, renaming, noted, nothing, keysPast, runsPast, readInto, notedRead}
+use Rattle.rules.specs.History.{History, othersOf, runOf, runsBut, goingOn, insertedRuns, removedRuns, puttingIn, renaming, noted, nothing, keysPast, runsPast, readInto, notedRead, frames, accepted, ordered, renamed, movedInto, notedTo, notedFrom}
 use Rattle.rules.specs.RunFile.{StoredRun}
 use Rattle.rules.specs.ReadFile.{readStep, runsOf}
-use Rattle.rules.specs.Demand.{Sequence, fromRead, andRead, headerOf}
+use Rattle.rules.specs.Demand.{Sequence, fromRead, andRead, headerOf, fromMove, movedTo, movedFrom}
+use Rattle.rules.specs.TwoTables.{TwoOutcome}
+use Rattle.rules.specs.Move.{AtMove}
+use Rattle.rules.specs.Moving.{Transfers}
 use Rattle.rules.specs.Sealing
-use Rattle.rules.specs.Stale.{Ends, Quietly, call, unread, copied, ReadIn, first, next, Gives, begun, put, renewed, Since, given, filed, since, Later, now, later, Takes, removed, removedShared, drained, drainedAll, cleared, compressed, TakenOut, taken, StaysDead}
+use Rattle.rules.specs.Stale.{Ends, Quietly, call, unread, copied, ReadIn, first, next, Gives, begun, put, renewed, Since, given, filed, since, Later, now, later, Takes, removed, removedShared, drained, drainedAll, cleared, compressed, TakenOut, taken, StaysDead, unmoved, left, MovedIn, onto, into, landed, movedAway}
 use Rattle.rules.proofs.laws.Lists.{In, Out, all-at, in-parts, in-image, out-not, nodup-parts}
 use Rattle.rules.proofs.laws.Pools.{if-eq, if-ne}
+use Rattle.rules.proofs.laws.Tests.{eq-is, is-true}
+use Rattle.rules.proofs.laws.Headers.{live-frames}
+use Rattle.rules.proofs.laws.Marks.{rises}
+use Rattle.rules.proofs.laws.Moving.{moving}
+use Rattle.rules.proofs.laws.Histories.Renumber.{flat-image}
 use Rattle.rules.proofs.laws.Keys.{key-path}
 use Rattle.rules.proofs.laws.Working.{view}
 use Rattle.rules.proofs.laws.Safe.{working, looked}
@@ -146,12 +154,73 @@ good-of s = after-good (s .calls)
 recalls-of : (s : Sequence) → Recalls (s .state) (s .history)
 recalls-of s = after-recalls (s .calls)
 
+-- Ticket 12: what a move does to its source
+module _ (s : Sequence) (target : State) (g : ℕ) (o : TwoOutcome) (d : AtMove target (s .state) g o) where
+  abbrev h₀ : History
+  h₀ = s .history
+
+  T : Transfers target (s .state) g o
+  T = moving target (s .state) g o d
+
+  many : frames h₀ ≡ s .state .head .elems .live
+  many = let G = good-of s in sym (live-frames (view (s .state)) (working (s .state) (G .ready)) (h₀ .runs) (G .rings))
+
+  -- its generation rises by one, if no overflow is said
+  cleared-rises : o .said .number ≡ 0 → o .said .over ≡ false → frames h₀ ≢ 0 → raised (h₀ .generation) ≡ h₀ .generation + 1
+  unfolding Drains.clear overflows
+  cleared-rises z q n =
+      let e = T .from z .cleared (λ k. n (many ∙ k)) .1 in
+      rises (h₀ .generation) (subst (λ (i : ℕ). (i == lastGeneration) ≡ false) (good-of s .generation) (sym e ∙ q))
+
+  left-moves : o .said .over ≡ false → Moves h₀ (notedFrom h₀ (o .said))
+  left-moves q = go (o .said .number == 0) (eq-is (o .said .number) 0)
+    where
+      still : Moves h₀ h₀
+      still = record { rises = omega arith; left = λ k i. inl i; came = λ k i. inl i }
+
+      away : (b : Bool) → Is (frames h₀ ≡ 0) b → o .said .number ≡ 0 → Moves h₀ (if b then h₀ else accepted h₀ clear [])
+      away true e z = still
+      away false e z = record { rises = omega (arith, cleared-rises z q e); left = λ k i. inr (omega (arith, cleared-rises z q e)); came = λ k i. absurd i }
+
+      go : (b : Bool) → Is (o .said .number ≡ 0) b → Moves h₀ (if b then (if frames h₀ == 0 then h₀ else accepted h₀ clear []) else h₀)
+      go true z = away (frames h₀ == 0) (eq-is (frames h₀) 0) z
+      go false z = still
+
+  -- no key is left
+  none-left : o .said .number ≡ 0 → (k : Key) → In k (flat (notedFrom h₀ (o .said) .runs)) → ⊥
+  none-left z k m = away (frames h₀ == 0) (eq-is (frames h₀) 0) (subst (λ (b : Bool). In k (flat ((if b then (if frames h₀ == 0 then h₀ else accepted h₀ clear []) else h₀) .runs))) (is-true (o .said .number == 0) (eq-is (o .said .number) 0) z) m)
+    where
+      nothing-in : (rs : List Key) → length rs ≡ 0 → In k rs → ⊥
+      nothing-in [] e i = i
+      nothing-in (r ∷ rs) e i = omega (arith, e)
+
+      away : (b : Bool) → Is (frames h₀ ≡ 0) b → In k (flat ((if b then h₀ else accepted h₀ clear []) .runs)) → ⊥
+      away true e i = nothing-in (flat (h₀ .runs)) e i
+      away false e i = i
+
 quietly-moves : (s : Sequence) {s′ : Sequence} → Quietly s s′ → Moves (s .history) (s′ .history)
 quietly-moves s (call lent c o d q) =
     let h = s .history in
     subst (λ (p : Outcome). (Ends (s .state) p c → ⊥) → Moves h (noted h c (p .said))) (sym (at-door (good-of s) (recalls-of s) lent c o d)) (call-goes (s .state) lent h (good-of s) (recalls-of s) c) q
 quietly-moves s (unread file b n) = subst (λ (h : History). Moves (s .history) h) (sym (if-ne (readStep (s .state) file .said .number) 0 (readInto (s .history) (runsOf file)) (s .history) n)) (record { rises = omega arith; left = λ k i. inl i; came = λ k i. inl i })
 quietly-moves s (copied target o d e) = record { rises = omega arith; left = λ k i. inl i; came = λ k i. inl i }
+quietly-moves s (unmoved from g o d n) =
+    subst (λ (h : History). Moves (s .history) h) (sym (if-ne (o .said .number) 0 (movedInto (s .history) (from .history) g) (s .history) n)) (record { rises = omega arith; left = λ k i. inl i; came = λ k i. inl i })
+quietly-moves s (left target g o d q) = left-moves s target g o d q
+
+-- all keys of the target have the generation given
+landed-generation : (h : History) (g : ℕ) (k : Key) → In k (flat (map (map (renamed g (ordered (h .runs)))) (h .runs))) → k .generation ≡ g
+unfolding renamed
+landed-generation h g k m = let i = in-image (renamed g (ordered (h .runs))) k (flat (h .runs)) (subst (λ (ks : List Key). In k ks) (flat-image (renamed g (ordered (h .runs))) (h .runs)) m) in ap (λ (j : Key). j .generation) (i .2)
+
+landed-kept : (k : Key) (t h : History) (g : ℕ) → In k (flat (movedInto t h g .runs)) → Kept k (movedInto t h g)
+landed-kept k t h g m = record { old = omega (arith, landed-generation h g k m); here = inl m }
+
+moved-kept : (k : Key) {s : Sequence} → MovedIn s → Tables.LiveKey (s .state) k → Kept k (s .history)
+moved-kept k (onto s target g o d e) l = landed-kept k nothing (s .history) g (in-live _ _ (good-of (fromMove s target g o d e)) k l)
+moved-kept k (into s t g o d e) l =
+    let q : notedTo (t .history) (s .history) g (o .said) ≡ movedInto (t .history) (s .history) g = if-eq (o .said .number) 0 (movedInto (t .history) (s .history) g) (t .history) e in
+    subst (λ (h : History). In k (flat (h .runs)) → Kept k h) (sym q) (landed-kept k (t .history) (s .history) g) (in-live _ _ (good-of (movedTo s t g o d)) k l)
 
 -- Ticket 11: a key that a read gave is of the first generation
 read-kept : (k : Key) {s : Sequence} → ReadIn s → Tables.LiveKey (s .state) k → Kept k (s .history)
@@ -166,6 +235,7 @@ since-kept k (given s lent c o d n g) =
     let G = good-of s in
     subst (λ (p : Outcome). Good (p .state) (noted h c (p .said)) → p .said .number ≡ 0 → Gives p k c → Kept k (noted h c (p .said))) (sym (at-door G (recalls-of s) lent c o d)) (given-kept (s .state) lent h G k c) (good-call G (recalls-of s) lent c o d .0) n g
 since-kept k (filed r l) = read-kept k r l
+since-kept k (landed m l) = moved-kept k m l
 since-kept k (since {s = s} p q) = kept-on k (quietly-moves s q) (since-kept k p)
 
 -- what is known of a key that is not live
@@ -237,6 +307,10 @@ taken-lost k s K (taken l lent c o d n q t) =
       kept = kept-on k (quietly-moves s (call lent c o d q)) K;
       dead = λ m. subst (λ (p : Outcome). p .said .number ≡ 0 → (Ends (s .state) p c → ⊥) → In k (flat (noted h c (p .said) .runs)) → ⊥) (sym (at-door G (recalls-of s) lent c o d)) f n q (in-live (o .state) _ (good-call G (recalls-of s) lent c o d .0) k m);
     }
+taken-lost k s K (movedAway l target g o d n q) = record {
+  kept = kept-on k (left-moves s target g o d q) K;
+  dead = λ m. none-left s target g o d n k (in-live (o .source) _ (good-of (movedFrom s target g o d)) k m);
+}
 
 -- what the call that looks it up says then
 lookup-says : (st : State) (lent : List ℕ) (k : Key) → (Tables.LiveKey st k → ⊥) → step st lent (lookup k) .said .number ≡ 3
