@@ -39,6 +39,14 @@
    target's head and tables goes, sound or not. From then on the two are apart: what is done in one does not show in the
    other, and a key that one of them gives may be live in the other too and mean another frame there. So mark whose key it is.
 
+   Moves. `transfer_canonical` moves a study to other tables, say to those of the recorder that goes on with it: all frames in
+   canonical order, numbered from slot 1 as `compress_canonical` would number them, each with the generation that is handed in.
+   Whatever the target held is gone. The source is left as `clear` leaves it, and `out` says whether its generation overflowed
+   in that; but an empty source stays as it was, and leaves an empty target with that generation. What must fit is how many
+   frames and runs the source has, wherever they lie. Neither side has anything to undo then. No key from before, of either
+   study, is good afterwards: for the source it is as after `clear`, for the target as after `fresh`. Who needs a frame's new
+   key lists its run before the move: the frames of a run come to slots one after the other, from the one of the lowest slot on.
+
    Run files. `write_file` writes a study into bytes that the caller stores or sends: every run's shared value and total,
    and its frames' payloads and sizes in ring order from its lowest slot, runs in the order of their lowest slots. Nothing
    of the study changes, and its undo is kept. `read_file` makes a study of such bytes, in tables of any capacities that
@@ -52,17 +60,18 @@
 
    Sizes. A frame has a size in bytes, a uint32_t given with it, and a run's header the total of its frames' sizes.
    `insert` adds to the total, `union` adds both, `undo` parts them again, removals and drains subtract, and both
-   compressions and copies carry sizes and totals along; setting a payload leaves the size. A total stays below
+   compressions, copies and moves carry sizes and totals along; setting a payload leaves the size. A total stays below
    281,474,976,710,656 (65,536 frames of 4,294,967,295 bytes have less), so nothing overflows and no call is refused for
    it. `get_size` and `get_total` read them. Neither places nor records hold sizes: who needs a frame's size reads it
    before the frame goes.
 
    Refusals. Each entry returns 0 when it accepted, else the number of the refusal. A refused call changes nothing: head,
-   tables, buffers and `out` stay as they were. The tests come in the order 1, 2, 10, 3, 4, 12, 6, 5, 7, and each entry
-   below lists those that it can give; `clone_from` alone tests 5 before 6, and `read_file` tests in the order 1, 9, 11, 9,
-   6, 5. Every entry that takes tables can give 1, and 2 but for `fresh` and `read_file`; of the two studies of
-   `clone_from`, 2 is said of the source alone. Refusal 3 says why the key is dead: the entry returns 3 + 256 * cause, so
-   compare DOORSEDGE_NUMBER(result) with DOORSEDGE_DEAD, never the result itself. Every other result is the number alone.
+   tables, buffers and `out` stay as they were. The tests come in the order 1, 2, 13, 10, 3, 4, 12, 6, 5, 7, and each entry
+   below lists those that it can give; `clone_from` and `transfer_canonical` alone test 5 before 6, and `read_file` tests in
+   the order 1, 9, 11, 9, 6, 5. Every entry that takes tables can give 1, and 2 but for `fresh` and `read_file`; of the two
+   studies of `clone_from`, 2 is said of the source alone, of those of `transfer_canonical` of both, and each number of the
+   source first. Refusal 3 says why the key is dead: the entry returns 3 + 256 * cause, so compare DOORSEDGE_NUMBER(result)
+   with DOORSEDGE_DEAD, never the result itself. Every other result is the number alone.
 
    Keys. A key is two numbers, slot and generation. It is live while its frame is in the tables, and dead (refusal 3)
    from its frame's removal on. Where only these calls write the tables, a dead key can come alive again, meaning
@@ -71,27 +80,29 @@
        removal raises it by one, so with a thousand a second that comes after 49 days;
      - drain_all overflowed in its closing clear, which no answer says: the head's generation is then 1;
      - `fresh`, `read_file`, or a compression with `reset`: the generation is 1 again;
-     - `clone_from` to these tables, for each key that they gave or held before it: the generation is the source's then.
+     - `clone_from` to these tables, for each key that they gave or held before it: the generation is the source's then;
+     - `transfer_canonical` to these tables: the generation is the one handed in. From these tables it is a `clear`.
    A key that came with a copy is, in the copy, a key that was given when the source gave it: what the source's calls did up
    to the copy, and the copy's calls from there on, is what counts for it.
    Why a key is dead. One of three causes, tested in this order: 1 its slot is 0 or past the extent, 2 its slot is free,
    3 its slot holds a frame of another generation. Of several keys it is the cause of the first dead one, in the order of
    the arguments. Where only these calls write the tables, a key that was given since the last `fresh`, `clear`,
-   `drain_all`, compression, read of a file or copy to these tables, or that was live in that copy,
+   `drain_all`, compression, read of a file, move from or to these tables or copy to them, or that was live in that copy,
      - never has cause 1;
      - has cause 2 where its frame is gone and its slot is free;
      - has cause 3 where its frame is gone and another came into its slot.
    So cause 1 is that of a key from before, of other tables, or damaged on its way. But such keys can have any of the three.
    `lookup` asks for nothing but this.
 
-   After `fresh`, `clear`, `drain_all`, `read_file` and a compression forget all keys from before, and after a copy those of
-   the target's old study; `compress_with` tells each frame's new one. What to do on overflow: before the next frame is put
+   After `fresh`, `clear`, `drain_all`, `read_file`, a compression and a move, on both sides, forget all keys from before,
+   and after a copy those of the target's old study; `compress_with` tells each frame's new one. What to do on overflow: before the next frame is put
    in, compress, and forget all keys from before. Or, where keys have to stay, forget those of frames that are gone (a
    read gives 3 for each), and each of the others as soon as its frame goes: they are good until then.
 
    What a call costs. Anything may stand in the tables, so every call but `fresh` and `read_file` reads both of them whole, up
-   to their capacities, before it does its own work; `fresh` writes them whole, and `clone_from` reads the source's and writes
-   the target's. That is 4 to 7 ns a slot on the machine of docs/SPEED.md, and up to 30 where one ring lies scattered over
+   to their capacities, before it does its own work; `fresh` writes them whole, `clone_from` reads the source's and writes
+   the target's, and `transfer_canonical` reads and writes both. That is 4 to 7 ns a slot on the machine of docs/SPEED.md, and
+   up to 30 where one ring lies scattered over
    65,536 slots: choose capacities that a study needs. Where the head keeps a union, the smaller of its two runs is
    walked once more. `read_file` goes through the file twice, first to test it, and writes the tables whole. A call takes at
    most DOORSEDGE_STACK bytes of stack (tests/stack-use.sh adds them up), and each but `write_file` at most 9,728; it uses no
@@ -145,15 +156,15 @@ enum doorsedge_refusal {
     DOORSEDGE_DEAD = 3,       /* a key handed in is not live; the result says why, see doorsedge_cause */
     DOORSEDGE_SAME_CLASS = 4, /* two keys that must be of different runs are of one */
     DOORSEDGE_NO_ELEMENT = 5, /* no element slot up to the capacity is free; of a copy: its last frame's slot is past it; of a
-                                 file: it has more frames */
+                                 move or a file: it has more frames */
     DOORSEDGE_NO_SHARED = 6,  /* no shared slot up to the capacity is free; of a copy: its last header's slot is past it; of a
-                                 file: it has more runs */
+                                 move or a file: it has more runs */
     DOORSEDGE_SHORT = 7,      /* a buffer has fewer places than needed */
     DOORSEDGE_NO_FILE = 9,    /* the bytes are no run file */
     DOORSEDGE_NOTHING = 10,   /* there is no union to take back */
     DOORSEDGE_OTHER_VERSION = 11, /* the bytes begin with another version than DOORSEDGE_FILE_VERSION */
     DOORSEDGE_SEALED = 12,    /* the run is sealed: no frame may come into it, nor may it be sealed again */
-    DOORSEDGE_OUT_OF_RANGE = 13 /* a number handed in is not in its range */
+    DOORSEDGE_OUT_OF_RANGE = 13 /* a number handed in is not in its range: of the ceiling call, or a generation of 0 */
 };
 
 /* Why a key is dead: of the first dead key, in the order of the arguments. */
@@ -203,9 +214,9 @@ enum doorsedge_cause {
 #define DOORSEDGE_PAIRS_LEN(frames) ((size_t)(frames) * DOORSEDGE_PAIR)
 #define DOORSEDGE_SCRATCH_LEN(capacity) ((size_t)(capacity) * DOORSEDGE_FRAME)
 
-/* The head's numbers. The extent is the highest slot ever used since fresh, clear, compression, copy or read of a file; the
-   slots of what was copied or read count as used. The last four are of the union that `undo` takes back, and all 0 where
-   there is none. */
+/* The head's numbers. The extent is the highest slot ever used since fresh, clear, compression, copy, move or read of a file;
+   the slots of what was copied, moved or read count as used. The last four are of the union that `undo` takes back, and all 0
+   where there is none. */
 enum doorsedge_head {
     DOORSEDGE_ELEMS_CAPACITY = 0,
     DOORSEDGE_ELEMS_EXTENT = 1,
@@ -462,7 +473,8 @@ uint64_t doorsedge_compress_with(uint64_t head[DOORSEDGE_HEAD], uint64_t *elems,
    Refusals: 13 (n is zero, or above DOORSEDGE_MOST_SLOTS). */
 uint64_t doorsedge_union_ceiling(uint64_t n, uint64_t out[1]);
 
-/* ---- Two studies: the target first, then the source, which is only read. Nothing of the one overlaps the other. */
+/* ---- Two studies: the target first, then the source, which `clone_from` only reads. Nothing of the one overlaps the
+   other. */
 
 /* Copies a study; see Copies, above. Head and tables of the target become the source's live frames and headers in their own
    slots, with rings, payloads, sizes, shared values, counts, totals and marks, and with its generation. The extents are the
@@ -473,6 +485,17 @@ uint64_t doorsedge_union_ceiling(uint64_t n, uint64_t out[1]);
 uint64_t doorsedge_clone_from(uint64_t head[DOORSEDGE_HEAD], uint64_t *elems, size_t elems_len, uint64_t *shared,
                               size_t shared_len, const uint64_t from_head[DOORSEDGE_HEAD], const uint64_t *from_elems,
                               size_t from_elems_len, const uint64_t *from_shared, size_t from_shared_len);
+
+/* Moves a study; see Moves, above. The target becomes what `compress_canonical` would make of the source, with this
+   generation and the target's capacities, and the source what `clear` makes of it; an empty source stays as it was. Rings,
+   payloads, sizes, shared values, counts, totals and marks come along.
+   out: 1 if the source's generation overflowed, else 0 (always 0 where the source is empty).
+   Refusals: 1 (of the source, then of the target), 2 (likewise), 13 (the generation is zero), 5, 6 (the source has more
+   frames than the target's element capacity, or more runs than its shared capacity). */
+uint64_t doorsedge_transfer_canonical(uint64_t head[DOORSEDGE_HEAD], uint64_t *elems, size_t elems_len,
+                                      uint64_t *shared, size_t shared_len, uint32_t generation,
+                                      uint64_t from_head[DOORSEDGE_HEAD], uint64_t *from_elems, size_t from_elems_len,
+                                      uint64_t *from_shared, size_t from_shared_len, uint64_t out[1]);
 
 /* ---- Run files; see above, and docs/FILE.md. `file` is bytes, and `file_len` how many. */
 

@@ -358,8 +358,9 @@ static void in_place(void) {
     IS(own.shared.live, 2);
 }
 
-/* A copy of a study in other tables, which held anything; and one that does not fit. More of it is in clone.c. */
-static void copy(void) {
+/* A copy of a study in other tables, which held anything, and one that does not fit; then a move there. More of it is in
+   clone.c and transfer.c. */
+static void two_studies(void) {
     uint64_t own[DOORSEDGE_HEAD], own_elems[ELEMS], own_shared[SHARED];
     two_runs();
     fill(own, DOORSEDGE_HEAD);
@@ -373,6 +374,12 @@ static void copy(void) {
     holds(__LINE__, "own_shared", own_shared, shared, SHARED);
     own[DOORSEDGE_SHARED_CAPACITY] = 1;
     IS(doorsedge_clone_from(own, own_elems, ELEMS, own_shared, DOORSEDGE_SHARED_LEN(1), STATE), DOORSEDGE_NO_SHARED);
+    own[DOORSEDGE_SHARED_CAPACITY] = RUNS;
+    REFUSED(doorsedge_transfer_canonical(own, own_elems, ELEMS, own_shared, SHARED, 0, STATE, out), DOORSEDGE_OUT_OF_RANGE);
+    IS(doorsedge_transfer_canonical(own, own_elems, ELEMS, own_shared, SHARED, 9, STATE, out), DOORSEDGE_OK);
+    HOLDS(out, 0);
+    HOLDS(own, FRAMES, 4, 0, 4, RUNS, 2, 0, 2, 9);
+    HOLDS(head, FRAMES, 0, 0, 0, RUNS, 0, 0, 0, 2);
 }
 
 /* NULL with length 0: an empty buffer where none is needed, one too short where it is, and tables of no shape. */
@@ -490,7 +497,7 @@ int main(void) {
     compress_in_order();
     both_compressions();
     in_place();
-    copy();
+    two_studies();
     null_with_none();
     old_keys();
     key_over_overflow();

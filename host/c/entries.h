@@ -1,4 +1,4 @@
-/* What the calls of entries.c, undo.c, clone.c and file.c are made on, and how what they answer and leave is tested. */
+/* What the calls of entries.c, undo.c, clone.c, file.c and transfer.c are made on, and how what they answer and leave is tested. */
 #include "doorsedge.h"
 
 #include <inttypes.h>

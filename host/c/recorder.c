@@ -1,8 +1,8 @@
 /* A recorder of image runs, as a host writes it in C: frames come in, runs are joined, the wrong two among them, which is taken
    back, a bad frame goes, the frames move down and the keys that are held follow, a viewer lists a run, the study is saved to a
-   file and read back by a viewer with tables of its own, the study is written out and the tables are ready for the next patient.
-   Its tables are its own; nothing is allocated. Built and run by host/c/run.sh, which compares what it prints with
-   recorder.stdout.
+   file and read back by a viewer with tables of its own, another recorder takes a study over, it is written out and the tables are
+   ready for the next patient. Its tables are its own; nothing is allocated. Built and run by host/c/run.sh, which compares what it
+   prints with recorder.stdout.
      recorder [FILE]   the study's file is kept there; without FILE it goes with the recorder */
 #include "doorsedge.h"
 
@@ -171,6 +171,15 @@ static void save_and_view(const study *s, FILE *file) {
     }
 }
 
+/* The study goes to another recorder's tables, whatever they held, and this one's are empty. Every key is new: the frames are
+   numbered from 1, run by run, with the generation that is handed in. */
+static void hand_over(study *s, study *to, uint32_t generation) {
+    uint64_t over[1];
+    must("transfer", doorsedge_transfer_canonical(to->head, TABLES(to), generation, s->head, TABLES(s), over));
+    printf("handed over: %" PRIu64 " frames in %" PRIu64 " runs, %" PRIu64 " are left here\n", to->head[DOORSEDGE_ELEMS_LIVE],
+           to->head[DOORSEDGE_SHARED_LIVE], s->head[DOORSEDGE_ELEMS_LIVE]);
+}
+
 /* The study leaves the tables, run by run; they are empty then, and old keys are dead. */
 static void write_out(study *s) {
     uint64_t records[DOORSEDGE_DRAIN_LEN(FRAMES)], count[1];
@@ -185,13 +194,14 @@ static void write_out(study *s) {
 }
 
 int main(int argc, char **argv) {
-    static study s;
+    static study s, second;
     FILE *file = argc > 1 ? fopen(argv[1], "wb+") : tmpfile();
     if (!file) {
         perror("the study's file");
         return 1;
     }
     begin_study(&s);
+    begin_study(&second);
 
     /* two runs come in at the same time */
     key left = begin_run(&s, 100, 1), left_last = left;
@@ -247,12 +257,15 @@ int main(int argc, char **argv) {
     s.elems[DOORSEDGE_FRAME_NEXT] ^= 1;
     printf("mended: refused %" PRIu64 "\n", doorsedge_check(s.head, TABLES(&s)));
 
-    /* the next patient: a short study, written out */
+    /* the next patient: a short study, which another recorder takes over and writes out */
     uint64_t over[1];
     must("clear", doorsedge_clear(s.head, TABLES(&s), over));
     key only = begin_run(&s, 500, 5);
-    add_frame(&s, &only, 501);
     begin_run(&s, 600, 6);
-    write_out(&s);
+    add_frame(&s, &only, 501);
+    hand_over(&s, &second, 40);
+    tell(&s, "the key of picture 501 at the first", only);
+    show_run(&second, (key){1, 40});
+    write_out(&second);
     return 0;
 }

@@ -56,10 +56,10 @@ pub enum Refusal {
     /// Two keys that must be of different runs are of one.
     SameClass,
     /// No element slot up to the capacity is free; or the last frame's slot of what is [copied](crate::Arena::clone_from) is past it;
-    /// or a [file](crate::Arena::read_file) has more frames.
+    /// or a [file](crate::Arena::read_file) or what is [moved](crate::Arena::transfer_canonical) has more frames.
     NoElement,
     /// No shared slot up to the capacity is free; or the last header's slot of what is [copied](crate::Arena::clone_from) is past it;
-    /// or a [file](crate::Arena::read_file) has more runs.
+    /// or a [file](crate::Arena::read_file) or what is [moved](crate::Arena::transfer_canonical) has more runs.
     NoShared,
     /// A buffer has fewer places than needed.
     Short,
@@ -131,8 +131,12 @@ impl fmt::Display for Refusal {
             Refusal::Shape => "a capacity is outside its range, or a table's length does not fit it",
             Refusal::Unsound => "the state is not sound",
             Refusal::SameClass => "two keys are of one run",
-            Refusal::NoElement => "no element slot up to the capacity is free, or what is copied or read needs more",
-            Refusal::NoShared => "no shared slot up to the capacity is free, or what is copied or read needs more",
+            Refusal::NoElement => {
+                "no element slot up to the capacity is free, or what is copied, moved or read needs more"
+            }
+            Refusal::NoShared => {
+                "no shared slot up to the capacity is free, or what is copied, moved or read needs more"
+            }
             Refusal::Short => "a buffer has fewer places than needed",
             Refusal::NoFile => "the bytes are no run file",
             Refusal::Nothing => "there is no union to take back",

@@ -1,4 +1,4 @@
-//! The call on two arenas: a study copied to another's tables.
+//! A call on two arenas: a study copied to another's tables.
 
 use crate::answers::Refusal;
 use crate::arena::Arena;

@@ -4,8 +4,9 @@
 //! shared value and the total of its frames' sizes.
 //! Runs are begun, grown, joined and taken apart, and the last union can be [undone](Arena::undo); a [Key] stays valid until
 //! its frame is removed or the arena is compressed. A study can be [copied](Arena::clone_from) to another arena, where its keys
-//! are valid too, and [written](Arena::write_file) as bytes and [read](Arena::read_file) back. Every call tests the tables, and what it cannot do it refuses with a
-//! [Refusal], changing nothing.
+//! are valid too, or [moved](Arena::transfer_canonical) there, where its frames have new ones; and it can be
+//! [written](Arena::write_file) as bytes and [read](Arena::read_file) back. Every call tests the tables, and what it cannot do it
+//! refuses with a [Refusal], changing nothing.
 //!
 //! ```
 //! use doorsedge::{Arena, Cause, Refusal};
@@ -80,6 +81,7 @@ mod arena;
 mod copies;
 mod figures;
 mod files;
+mod moves;
 pub mod sys;
 mod tables;
 mod writer;

@@ -362,6 +362,21 @@ unsafe extern "C" {
         from_shared_len: usize,
     ) -> u64;
 
+    pub fn doorsedge_transfer_canonical(
+        head: *mut Head,
+        elems: *mut u64,
+        elems_len: usize,
+        shared: *mut u64,
+        shared_len: usize,
+        generation: u32,
+        from_head: *mut Head,
+        from_elems: *mut u64,
+        from_elems_len: usize,
+        from_shared: *mut u64,
+        from_shared_len: usize,
+        out: *mut [u64; 1],
+    ) -> u64;
+
     pub fn doorsedge_write_file(
         head: *const Head,
         elems: *const u64,

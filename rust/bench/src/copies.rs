@@ -1,7 +1,7 @@
 //! A study copied to other tables of the same size: the archive's call and its check alone, the same in plain Rust, the copy alone on
 //! rows, and the Rust's own `clone_from_with`, to an arena that has the room already.
 
-use crate::measure::shuffled_ring;
+use crate::moves::shapes;
 use crate::sides::{Bed, Oracle};
 use archive::copies::copy_at;
 use archive::{Host, Lent};
@@ -63,7 +63,7 @@ impl Copy {
     }
 }
 
-fn lent(host: &mut Host) -> Lent {
+pub fn lent(host: &mut Host) -> Lent {
     let (elems, shared): (*mut [u64], *mut [u64]) = (&mut host.elems[..], &mut host.shared[..]);
     Lent { head: &mut host.head, elems, shared, buffer: &mut [], out: std::ptr::null_mut() }
 }
@@ -85,13 +85,7 @@ pub fn table() {
     ["archive", "check", "alone", "rust", "rows", "oracle"].iter().for_each(|column| print!("{column:>12}"));
     println!("{:>12}{:>12}{:>12}", "a/rust", "alone/rows", "a/o");
     for n in SIZES {
-        let shapes = [
-            ("rings of four", Bed::new(n, n, 4)),
-            ("rings of four, half gone", Bed::with_holes(n, 4, 2)),
-            ("one ring, shuffled", shuffled_ring(n)),
-            ("no frame", Bed::new(n, 0, 1)),
-        ];
-        for (name, source) in shapes {
+        for (name, source) in shapes(n) {
             let [archive, check, rust, rows, oracle] =
                 Copy::of(source).least(Duration::from_millis(150)).map(|time| time / n as f64);
             let alone = archive - check;

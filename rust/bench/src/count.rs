@@ -2,20 +2,23 @@
 //! less the check's.
 
 use crate::measure::{Batch, checks, single_calls};
-use crate::sides::{Bed, Side};
+use crate::moves::{Move, shapes};
+use crate::sides::Side;
 use model::door::Call;
 use std::process::Command;
 
 /// What is counted is what runs in here.
 #[unsafe(no_mangle)]
 #[inline(never)]
-fn bench_counted(bed: &mut Bed, side: Side, calls: &[Call]) {
-    bed.make(side, calls);
+fn bench_counted(make: &mut dyn FnMut()) {
+    make();
 }
 
 const SLOTS: usize = 512;
 /// From this number on, batches are those of the check.
 const CHECKS: usize = 100;
+/// From this number on, those of the move.
+const MOVES: usize = 200;
 
 /// The batches that are counted: the calls, and a check of the same tables.
 fn batches() -> Vec<Batch> {
@@ -30,10 +33,16 @@ fn batches() -> Vec<Batch> {
 
 /// Runs one batch on one side, once: what callgrind is given.
 pub fn once(batch: usize, side: usize) {
+    if batch >= MOVES {
+        let (_, source) = shapes(SLOTS).into_iter().nth(batch - MOVES).unwrap();
+        let mut both = Move::of(source);
+        return bench_counted(&mut || both.make(side));
+    }
     let all = if batch < CHECKS { batches() } else { checks(SLOTS) };
     let batch = &all[batch % CHECKS];
     let side = [Side::Archive, Side::Door, Side::Rows, Side::Oracle][side];
-    bench_counted(&mut batch.bed.restored(), side, &batch.calls);
+    let mut bed = batch.bed.restored();
+    bench_counted(&mut || bed.make(side, &batch.calls));
 }
 
 /// Instructions for each call of a batch.
@@ -51,7 +60,9 @@ fn counted(batch: usize, side: usize, per: usize) -> Option<f64> {
 
 pub fn table() {
     println!("\nInstructions a call, {SLOTS} slots, half of them in rings of four (callgrind)");
-    println!("`adds` is the host call less its check; `rows`, which checks nothing, is its call less the choice of it.");
+    println!(
+        "`adds` is the host call less its check; `rows`, which checks nothing, is its call less the choice of it."
+    );
     let columns = ["archive", "rust", "archive adds", "rust adds", "rows", "oracle", "a/r adds", "a adds/rows"];
     print!("{:<20}", "");
     columns.iter().for_each(|column| print!("{column:>14}"));
@@ -79,5 +90,17 @@ pub fn table() {
         let count = |side| counted(at + CHECKS, side, batch.per * SLOTS).unwrap_or(f64::NAN);
         let (archive, rust) = (count(0), count(1));
         println!("{:<26}{archive:>12.1}{rust:>12.1}{:>10.2}", batch.name, archive / rust);
+    }
+    println!("\nA move, instructions a slot (callgrind); `alone` is the archive's call less its two checks");
+    let columns = ["archive", "checks", "rust", "rows", "oracle", "alone", "a/rust", "alone/rows"];
+    print!("{:<26}", "");
+    columns.iter().for_each(|column| print!("{column:>12}"));
+    println!();
+    for (at, (name, _)) in shapes(SLOTS).iter().enumerate() {
+        let sides = [0, 1, 2, 3, 4].map(|side| counted(at + MOVES, side, SLOTS).unwrap_or(f64::NAN));
+        let alone = sides[0] - sides[1];
+        print!("{name:<26}");
+        sides.iter().chain([&alone]).for_each(|count| print!("{count:>12.1}"));
+        println!("{:>12.2}{:>12.2}", sides[0] / sides[2], alone / sides[3]);
     }
 }

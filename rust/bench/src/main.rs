@@ -1,12 +1,13 @@
 //! `bench`: each call of the archive beside the plain Rust rows arena and the oracle. `bench door`: the soundness check and
 //! what a host call adds to it. `bench clear`: clear by extent. `bench compress`: compression as tables grow. `bench compress_with`:
-//! compression in slot order as tables grow. `bench clone`: copies. `bench files`: run files. `bench count`: instructions. All times of a line are from the same rounds, but for the
-//! oracle's compression in slot order; ratios are what to read.
+//! compression in slot order as tables grow. `bench clone`: copies. `bench move`: moves. `bench files`: run files. `bench count`: instructions.
+//! All times of a line are from the same rounds, but for the oracle's compression in slot order; ratios are what to read.
 
 mod copies;
 mod count;
 mod files;
 mod measure;
+mod moves;
 mod sides;
 
 use measure::{Batch, least, least_of};
@@ -209,6 +210,7 @@ fn main() {
             compress_canonical();
             compress_with();
             copies::table();
+            moves::table();
             files::table();
             count::table();
         }
@@ -217,10 +219,11 @@ fn main() {
         Some("compress") => compress_canonical(),
         Some("compress_with") => compress_with(),
         Some("clone") => copies::table(),
+        Some("move") => moves::table(),
         Some("files") => files::table(),
         Some("count") => count::table(),
         Some(_) => {
-            eprintln!("usage: bench [door|clear|compress|compress_with|clone|files|count]");
+            eprintln!("usage: bench [door|clear|compress|compress_with|clone|move|files|count]");
             std::process::exit(2);
         }
     }

@@ -39,6 +39,8 @@ pub enum Call {
     GetTotal(Name),
     /// To the other recorder's tables.
     CloneFrom,
+    /// The study goes to the other recorder's tables, with this generation.
+    Transfer(u32),
     /// The calls after it are made on the other recorder's tables.
     Change,
     /// On the archive alone: what it writes is what the oracle holds.
@@ -47,7 +49,7 @@ pub enum Call {
     ReadFile,
 }
 
-pub const KINDS: [&str; 29] = [
+pub const KINDS: [&str; 30] = [
     "fresh",
     "check",
     "len_surject",
@@ -74,6 +76,7 @@ pub const KINDS: [&str; 29] = [
     "get_total",
     "undo",
     "clone_from",
+    "transfer_canonical",
     "(other tables)",
     "write_file",
     "read_file",
@@ -109,9 +112,10 @@ impl Call {
             Call::GetTotal(_) => 23,
             Call::Undo => 24,
             Call::CloneFrom => 25,
-            Call::Change => 26,
-            Call::WriteFile => 27,
-            Call::ReadFile => 28,
+            Call::Transfer(_) => 26,
+            Call::Change => 27,
+            Call::WriteFile => 28,
+            Call::ReadFile => 29,
         }
     }
 
@@ -135,8 +139,8 @@ impl Call {
             Call::InSameSurject(j, k) | Call::Union(j, k) => vec![j, k],
             Call::Exchange(keys, _) => keys.to_vec(),
             Call::Fresh | Call::Check | Call::InsertSurject(..) | Call::DrainAll | Call::Clear => vec![],
-            Call::Compress(_) | Call::CompressWith(_) | Call::Undo | Call::CloneFrom | Call::Change => vec![],
-            Call::WriteFile | Call::ReadFile => vec![],
+            Call::Compress(_) | Call::CompressWith(_) | Call::Undo => vec![],
+            Call::CloneFrom | Call::Transfer(_) | Call::Change | Call::WriteFile | Call::ReadFile => vec![],
         }
     }
 
@@ -165,6 +169,7 @@ impl fmt::Display for Call {
         match *self {
             Call::Fresh | Call::Check | Call::Undo | Call::DrainAll | Call::Clear => write!(f, "{kind}"),
             Call::CloneFrom | Call::Change | Call::WriteFile | Call::ReadFile => write!(f, "{kind}"),
+            Call::Transfer(generation) => write!(f, "{kind} {generation}"),
             Call::LenSurject(k)
             | Call::Get(k)
             | Call::GetShared(k)

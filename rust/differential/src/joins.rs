@@ -28,7 +28,8 @@ impl Pair {
         let sizes = (self.oracle.len_surject(ptr0), self.oracle.len_surject(ptr1));
         let (equal, dead) = (sizes.0.is_some() && sizes.0 == sizes.1, self.dead(&[j, k]));
         let classes = |port: &Arena| port.elems().chunks(FRAME).map(|row| row[2]).collect::<Vec<_>>();
-        let (before, both) = (classes(&self.port), Before { oracle: self.oracle.exact_copy(), port: self.port.clone() });
+        let (before, both) =
+            (classes(&self.port), Before { oracle: self.oracle.exact_copy(), port: self.port.clone() });
         let said = match self.fault {
             Fault::EqualSwapped if equal => self.port.union(key1, key0),
             _ => self.port.union(key0, key1),

@@ -5,19 +5,24 @@
 //!
 //! `differential sample SEQUENCES SEED` writes a fixed sample of the oracle's answers ([sample]).
 
+mod adversarial;
 mod calls;
 mod causes;
 mod compare;
 mod copies;
 mod files;
+mod frames;
 mod generate;
 mod joins;
+mod moves;
 mod ordered;
 mod pair;
+mod reads;
 mod run;
 mod sample;
 mod seal;
 mod totals;
+mod whole;
 
 use calls::{Call, Case, KINDS};
 use generate::Random;
@@ -34,7 +39,7 @@ struct Args {
     fault: Fault,
 }
 
-const USAGE: &str = "usage: differential [CASES] [SEED] [--length N] [--fault equal|run|map|further|seal|ring|pairs|headers|cause|size|sizes|undo|kept|clone|file]";
+const USAGE: &str = "usage: differential [CASES] [SEED] [--length N] [--fault equal|run|map|further|seal|ring|pairs|headers|cause|size|sizes|undo|kept|clone|move|left|file]";
 
 fn args() -> Option<Args> {
     let mut args = Args { cases: 20_000, seed: 1, length: 5, fault: Fault::None };
@@ -58,6 +63,8 @@ fn args() -> Option<Args> {
                     "undo" => Fault::UndoneValue,
                     "kept" => Fault::SetKeepsUndo,
                     "clone" => Fault::ChainReversed,
+                    "move" => Fault::MovedElsewhere,
+                    "left" => Fault::SourceKept,
                     "file" => Fault::FramesExchanged,
                     _ => return None,
                 }
@@ -121,7 +128,7 @@ fn all(args: &Args, way: &Way, progress: &mut Progress) -> Result<(), (Case, Dif
         let mut case = Case { elems, shared, others, calls: vec![], stride: usize::MAX };
         generate::every(way, &mut case, args.length, &mut |tally| progress.add("all short sequences", tally))?;
     }
-    for (name, case) in generate::adversarial(args.seed, 4_096) {
+    for (name, case) in adversarial::adversarial(args.seed, 4_096) {
         match way.run(&case) {
             Ok(tally) => progress.add(name, &tally),
             Err(difference) => return Err((case, difference)),
@@ -139,7 +146,7 @@ fn summary(args: &Args, way: &Way, progress: &Progress) {
     let against = if cfg!(feature = "mock") { "the MOCK, not the proved archive" } else { "the archive" };
     println!("Differential run: the Rust (three files over a stand-in) against {against}");
     print!("{:<20}", "call");
-    ["accepted", "refused 3", "refused 4", "refused 12", "refused 10", "refused 5", "refused 6"]
+    ["accepted", "refused 3", "refused 4", "refused 12", "refused 10", "refused 5", "refused 6", "refused 13"]
         .iter()
         .for_each(|column| print!("{column:>12}"));
     println!();

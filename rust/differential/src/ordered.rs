@@ -62,7 +62,7 @@ impl Pair {
     }
 
     /// The order of shared values can be seen: in the archive's table, and by the oracle's iterator over them.
-    fn same_headers(&self) -> Result<(), String> {
+    pub fn same_headers(&self) -> Result<(), String> {
         let rows = self.port.shared().chunks(HEADER).filter(|row| row[0] != 0);
         let mut port: Vec<u64> = rows.map(|row| row[1]).collect();
         let mut oracle: Vec<u64> = self.oracle.shared_vals().copied().collect();

@@ -1,9 +1,8 @@
 //! Both sides, and the map between their keys. Each call is made on both, and what they answer is compared.
 
 use crate::calls::{Call, Case, KINDS, NEVER, Name};
-use crate::joins::{Before, remember};
-use crate::seal::refused_12;
-use doorsedge::{Arena, FRAME, Key, Record, Refusal};
+use crate::joins::Before;
+use doorsedge::{Arena, Key, Refusal};
 use std::collections::HashSet;
 use triple_arena::traits::*;
 use triple_arena::{SurjectArena, ptr_struct};
@@ -55,6 +54,10 @@ pub enum Fault {
     SetKeepsUndo,
     /// A copy has its free slots chained highest first.
     ChainReversed,
+    /// A move lays its first ring of two or more down from the next frame on.
+    MovedElsewhere,
+    /// The source of a move keeps its generation.
+    SourceKept,
     /// A file has the first two frames of its first run of three or more exchanged.
     FramesExchanged,
 }
@@ -63,8 +66,8 @@ pub enum Fault {
 #[derive(Clone, Copy, Default, Debug)]
 pub struct Tally {
     pub sequences: u64,
-    /// By kind: accepted, dead, same class, sealed, nothing to undo, no element slot, no shared slot.
-    pub calls: [[u64; 7]; KINDS.len()],
+    /// By kind: accepted, dead, same class, sealed, nothing to undo, no element slot, no shared slot, out of range.
+    pub calls: [[u64; 8]; KINDS.len()],
     /// The dead ones by their cause.
     pub causes: [u64; 3],
     pub longest_ring: u64,
@@ -238,14 +241,17 @@ impl Pair {
             Call::GetSize(k) => self.get_size(k)?,
             Call::GetTotal(k) => self.get_total(k)?,
             Call::CloneFrom => self.copy()?,
+            Call::Transfer(generation) => self.transfer(generation)?,
             Call::WriteFile => self.write_file()?,
             Call::ReadFile => self.read_file()?,
             Call::Change => {
                 self.change_tables();
                 None
             }
-            _ => self.read_or_set(call)?,
+            Call::Set(..) | Call::SetShared(..) | Call::Exchange(..) => self.store(call)?,
+            _ => self.read(call)?,
         };
+        let is_of_two = matches!(call, Call::CloneFrom | Call::Transfer(_));
         let column = match refusal {
             None => 0,
             Some(Refusal::Dead(cause)) => {
@@ -256,8 +262,9 @@ impl Pair {
             Some(Refusal::Sealed) => 3,
             Some(Refusal::Nothing) => 4,
             // no other call is made without room
-            Some(Refusal::NoElement) if *call == Call::CloneFrom => 5,
-            Some(Refusal::NoShared) if *call == Call::CloneFrom => 6,
+            Some(Refusal::NoElement) if is_of_two => 5,
+            Some(Refusal::NoShared) if is_of_two => 6,
+            Some(Refusal::OutOfRange) if *call == Call::Transfer(0) => 7,
             Some(other) => return Err(format!("the archive says {other}")),
         };
         if refusal.is_none() && !matches!(call, Call::Union(..)) && !call.keeps_undo() {
@@ -267,92 +274,6 @@ impl Pair {
         Ok(())
     }
 
-    fn read_or_set(&mut self, call: &Call) -> Result<Option<Refusal>, String> {
-        let dead = self.dead(&call.keys());
-        let (port, oracle) = (&mut self.port, &mut self.oracle);
-        let frames = &self.frames;
-        let keys = |name: Name| match frames.get(name) {
-            Some(Some(frame)) => (frame.key, frame.ptr),
-            _ => (Key::new(0, 1), P0::invalid()),
-        };
-        match *call {
-            Call::Check => {
-                same("check", port.check().is_ok(), Oracle::_check_invariants(oracle).is_ok())?;
-                Ok(port.check().err())
-            }
-            Call::LenSurject(k) => {
-                let said = port.len_surject(keys(k).0);
-                same("len", said, oracle.len_surject(keys(k).1).map(|n| n.get() as u64).ok_or(dead))?;
-                Ok(said.err())
-            }
-            Call::Lookup(k) => {
-                let said = port.lookup(keys(k).0);
-                same("lookup", said, if oracle.contains(keys(k).1) { Ok(()) } else { Err(dead) })?;
-                Ok(said.err())
-            }
-            Call::InSameSurject(j, k) => {
-                let said = match self.fault {
-                    Fault::KeysSwapped => port.in_same_surject(keys(k).0, keys(j).0),
-                    _ => port.in_same_surject(keys(j).0, keys(k).0),
-                };
-                same("in same", said, oracle.in_same_surject(keys(j).1, keys(k).1).ok_or(dead))?;
-                Ok(said.err())
-            }
-            Call::Get(k) => {
-                let said = port.get(keys(k).0);
-                same("payload", said, oracle.get(keys(k).1).map(|picture| picture.0).ok_or(dead))?;
-                Ok(said.err())
-            }
-            Call::GetShared(k) => {
-                let said = port.get_shared(keys(k).0);
-                same("shared value", said, oracle.get_shared(keys(k).1).copied().ok_or(dead))?;
-                Ok(said.err())
-            }
-            Call::Set(k, payload) => {
-                let memory = *port.head();
-                let said = port.set(keys(k).0, payload);
-                if self.fault == Fault::SetKeepsUndo {
-                    remember(port, &memory);
-                }
-                let old = oracle.get_mut(keys(k).1).map(|t| std::mem::replace(&mut t.0, payload));
-                same("old payload", said, old.ok_or(dead))?;
-                if said.is_ok() {
-                    self.frames[k].as_mut().unwrap().picture.0 = payload;
-                }
-                Ok(said.err())
-            }
-            Call::SetShared(k, value) => {
-                let said = port.set_shared(keys(k).0, value);
-                let old = oracle.get_shared_mut(keys(k).1).map(|s| std::mem::replace(s, value));
-                same("old value", said, old.ok_or(dead))?;
-                Ok(said.err())
-            }
-            Call::Exchange(names, values) => {
-                let said = port.exchange_shared4(names.map(|name| keys(name).0), values);
-                let old = match oracle.get_disjoint_shared_mut(names.map(|name| keys(name).1)) {
-                    Ok(shared) => {
-                        let mut values = values.into_iter();
-                        Ok(shared.map(|s| std::mem::replace(s, values.next().unwrap())))
-                    }
-                    Err(std::slice::GetDisjointMutError::IndexOutOfBounds) => Err(dead),
-                    Err(std::slice::GetDisjointMutError::OverlappingIndices) => Err(Refusal::SameClass),
-                };
-                same("old values", said, old)?;
-                Ok(said.err())
-            }
-            Call::List(k) => {
-                let said = port.list(keys(k).0);
-                let ring = oracle.iter_surject(keys(k).1).map(|ring| ring.map(|(p, _, _)| p).collect::<Vec<_>>());
-                let names = said.clone().map(|ring| ring.into_iter().map(|key| self.name_of_key(key)).collect());
-                let wanted = ring.map(|ring| ring.into_iter().map(|ptr| self.name_of_ptr(ptr)).collect());
-                let (names, wanted) = (names.map(|r| self.as_compared(r)), wanted.map(|r| self.as_compared(r)));
-                same("ring", names, wanted.ok_or(dead))?;
-                Ok(said.err())
-            }
-            _ => unreachable!("no read and no set"),
-        }
-    }
-
     /// A ring, or the set of its frames where the sides differ in order.
     pub fn as_compared(&self, mut ring: Vec<Name>) -> Vec<Name> {
         if !self.ordered {
@@ -360,214 +281,4 @@ impl Pair {
         }
         ring
     }
-
-    fn put_in(&mut self, call: &Call) -> Result<Option<Refusal>, String> {
-        let dead = self.dead(&call.keys());
-        match *call {
-            Call::Fresh => {
-                let (elems, shared) = (self.oracle.capacity(), self.oracle.capacity_shared());
-                self.oracle = Oracle::with_min_capacity_separated(elems, shared).unwrap();
-                self.port = Arena::fresh(elems, shared).map_err(|refusal| refusal.to_string())?;
-                self.frames.clear();
-                self.sealed.clear();
-                self.forget();
-                Ok(None)
-            }
-            Call::InsertSurject(name, payload, value, size) => {
-                let said = self.port.insert_surject(payload, value, size);
-                let ptr = self.oracle.insert_surject_within_capacity((payload, size), value);
-                let (Ok(key), Ok(ptr)) = (said, ptr) else {
-                    return Err(format!("new run: archive {said:?}, oracle {ptr:?}"));
-                };
-                self.learn(name, key, ptr, (payload, size))?;
-                Ok(None)
-            }
-            Call::Insert(at, name, payload, size) => {
-                let (mut key, ptr) = self.keys(at);
-                if self.fault == Fault::OneFurther && self.port.len_surject(key).is_ok_and(|n| n >= 4) {
-                    key = self.port.list(key).unwrap()[1];
-                }
-                let off = self.fault == Fault::SizeOff && self.port.len_surject(key).is_ok_and(|n| n >= 2);
-                let said = self.port.insert(key, payload, if off { size.wrapping_sub(1) } else { size });
-                if self.is_sealed(at) {
-                    return refused_12("insert", said.err());
-                }
-                let new = self.oracle.insert_within_capacity(ptr, (payload, size));
-                match (said, new) {
-                    (Ok(key), Ok(ptr)) => {
-                        self.learn(name, key, ptr, (payload, size))?;
-                        Ok(None)
-                    }
-                    (Err(refusal), Err(triple_arena::errors::ChainInsertionError::FailedLinkRequirement)) => {
-                        same("insert's refusal", refusal, dead)?;
-                        Ok(said.err())
-                    }
-                    _ => Err(format!("insert: archive {said:?}, oracle {new:?}")),
-                }
-            }
-            _ => unreachable!("nothing is put in"),
-        }
-    }
-
-    fn take_out(&mut self, call: &Call) -> Result<Option<Refusal>, String> {
-        let dead = self.dead(&call.keys());
-        match *call {
-            Call::RemoveElement(k) => {
-                let (key, ptr) = self.keys(k);
-                let said = self.port.remove_element(key);
-                let out = self.oracle.remove_element(ptr).allow().map(|(t, last)| (t.0, last)).ok_or(dead);
-                same("removal", said.map(|out| (out.payload, out.last)), out)?;
-                same("overflow", said.is_ok_and(|out| out.overflow), false)?;
-                Ok(said.err())
-            }
-            Call::RemoveShared(k) => {
-                let (key, ptr) = self.keys(k);
-                let said = match self.fault {
-                    Fault::RunStays => {
-                        let value = self.port.get_shared(key);
-                        value.and_then(|value| self.port.remove_element(key).map(|out| (value, out.overflow)))
-                    }
-                    _ => self.port.remove_shared(key).map(|out| (out.value, out.overflow)),
-                };
-                same(
-                    "removal of a run",
-                    said,
-                    self.oracle.remove_shared(ptr).allow().map(|value| (value, false)).ok_or(dead),
-                )?;
-                Ok(said.err())
-            }
-            Call::Drain(k) => {
-                let (key, ptr) = self.keys(k);
-                let said = self.port.drain(key);
-                let wanted = self.oracle.drain_surject(ptr).map(|drain| drain.map(|o| o.allow()).collect::<Vec<_>>());
-                match (&said, wanted) {
-                    (Ok(records), Some(wanted)) => self.same_drain(records, &wanted)?,
-                    (Err(refusal), None) => same("drain's refusal", *refusal, dead)?,
-                    (_, wanted) => return Err(format!("drain: archive {said:?}, oracle {wanted:?}")),
-                }
-                Ok(said.err())
-            }
-            _ => unreachable!("nothing is taken out"),
-        }
-    }
-
-    /// The records of one run: the same frames in the same order, the shared value with the last one alone.
-    fn same_drain(&self, records: &[Record], wanted: &[(P0, Picture, Option<u64>)]) -> Result<(), String> {
-        let ring = records.iter().map(|record| self.name_of_key(record.key)).collect();
-        let other = wanted.iter().map(|(ptr, _, _)| self.name_of_ptr(*ptr)).collect();
-        same("drained ring", self.as_compared(ring), self.as_compared(other))?;
-        for record in records {
-            same("drained payload", Some(record.payload), self.payload(self.name_of_key(record.key)))?;
-            same("overflow", record.overflow, false)?;
-        }
-        let values = |mut all: Vec<Option<u64>>| (all.pop(), all.iter().any(|value| value.is_some()));
-        let said = values(records.iter().map(|record| record.last).collect());
-        same("drained value", said, values(wanted.iter().map(|(_, _, value)| *value).collect()))
-    }
-
-    fn payload(&self, name: Name) -> Option<u64> {
-        self.frames.get(name).copied().flatten().map(|frame| frame.picture.0)
-    }
-
-    fn on_all(&mut self, call: &Call) -> Result<Option<Refusal>, String> {
-        match *call {
-            Call::DrainAll => {
-                let said = self.port.drain_all().map_err(|refusal| refusal.to_string())?;
-                let wanted: Vec<_> = self.oracle.drain_combined().map(|o| o.allow()).collect();
-                self.same_runs(&said, &wanted)?;
-                self.extent = 0;
-            }
-            Call::Clear => {
-                same("clear", self.port.clear(), Ok(false))?;
-                self.oracle.clear().allow();
-                self.extent = 0;
-            }
-            Call::Compress(reset) => {
-                same("compression", self.port.compress_canonical(reset), Ok(false))?;
-                if self.fault == Fault::SizesCrossed {
-                    self.cross_sizes();
-                }
-                self.oracle.compress_canonical(reset).allow();
-                self.relearn()?;
-            }
-            _ => unreachable!("not a call on all"),
-        }
-        Ok(None)
-    }
-
-    /// Drain-all is compared run by run: slot numbers, and so the order of runs and where each begins, may differ.
-    fn same_runs(&self, said: &[Record], wanted: &[(P0, Picture, Option<u64>)]) -> Result<(), String> {
-        let port =
-            said.iter().map(|record| (self.name_of_key(record.key), record.payload, record.last)).collect::<Vec<_>>();
-        let oracle = wanted.iter().map(|(ptr, t, s)| (self.name_of_ptr(*ptr), t.0, *s)).collect::<Vec<_>>();
-        same("overflow", said.iter().any(|record| record.overflow), false)?;
-        same("drained runs", self.runs(&port), self.runs(&oracle))
-    }
-
-    /// Runs with their values, each ring begun at its least name, in the order of these.
-    fn runs(&self, drained: &[(Name, u64, Option<u64>)]) -> Vec<(Vec<(Name, u64)>, u64)> {
-        let mut runs = vec![];
-        for run in drained.split_inclusive(|(_, _, value)| value.is_some()) {
-            let mut ring: Vec<(Name, u64)> = run.iter().map(|(name, payload, _)| (*name, *payload)).collect();
-            let least = ring.iter().enumerate().min_by_key(|(_, frame)| **frame).map_or(0, |(at, _)| at);
-            ring.rotate_left(least);
-            if !self.ordered {
-                ring.sort_unstable();
-            }
-            runs.push((ring, run.last().unwrap().2.unwrap_or(u64::MAX)));
-        }
-        runs.sort_unstable();
-        runs
-    }
-
-    /// After compression every frame has a new key, known by its payload. Keys from before are not handed in again.
-    pub fn relearn(&mut self) -> Result<(), String> {
-        let generation = self.port.generation();
-        let rows: Vec<(u64, Key)> = self
-            .port
-            .elems()
-            .chunks(FRAME)
-            .zip(1..)
-            .filter(|(row, _)| row[0] != 0)
-            .map(|(row, slot)| (row[1], Key::new(slot, row[0])))
-            .collect();
-        if rows.iter().any(|(_, key)| key.generation() != generation) {
-            return Err("compression left an old generation".into());
-        }
-        let ptrs: Vec<(u64, P0)> = self.oracle.iter_combined().map(|(p, t, _)| (t.0, p)).collect();
-        same("frames after compression", rows.len(), ptrs.len())?;
-        let (rows, ptrs) = (by_payload(rows)?, by_payload(ptrs)?);
-        let old = std::mem::take(&mut self.frames);
-        self.frames = vec![None; old.len()];
-        self.forget();
-        for (name, frame) in old.into_iter().enumerate() {
-            let Some(picture) = frame.map(|frame| frame.picture) else { continue };
-            match (rows.get(&picture.0), ptrs.get(&picture.0)) {
-                (Some(key), Some(ptr)) => self.learn(name, *key, *ptr, picture)?,
-                (None, None) => (),
-                (key, ptr) => return Err(format!("payload and size {picture:?}: archive {key:?}, oracle {ptr:?}")),
-            }
-        }
-        if self.fault == Fault::MapCrossed {
-            self.cross();
-        }
-        Ok(())
-    }
-
-    fn cross(&mut self) {
-        let live: Vec<Name> = self.live().collect();
-        if let [.., a, b] = live[..] {
-            let (first, second) = (self.frames[a].unwrap().key, self.frames[b].unwrap().key);
-            self.frames[a].as_mut().unwrap().key = second;
-            self.frames[b].as_mut().unwrap().key = first;
-            (self.by_key[second.slot() as usize], self.by_key[first.slot() as usize]) = (a, b);
-        }
-    }
-}
-
-/// Payloads are distinct.
-fn by_payload<K>(frames: Vec<(u64, K)>) -> Result<std::collections::HashMap<u64, K>, String> {
-    let count = frames.len();
-    let map: std::collections::HashMap<u64, K> = frames.into_iter().collect();
-    if map.len() == count { Ok(map) } else { Err("a payload is there twice".into()) }
 }

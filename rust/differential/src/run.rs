@@ -126,7 +126,7 @@ fn renamed(case: &Case) -> Case {
         Call::GetSize(k) => Call::GetSize(name(k)),
         Call::GetTotal(k) => Call::GetTotal(name(k)),
         Call::Fresh | Call::Check | Call::Undo | Call::DrainAll | Call::Clear => *call,
-        Call::Compress(_) | Call::CompressWith(_) | Call::CloneFrom | Call::Change => *call,
+        Call::Compress(_) | Call::CompressWith(_) | Call::CloneFrom | Call::Transfer(_) | Call::Change => *call,
         Call::WriteFile | Call::ReadFile => *call,
     });
     Case { calls: calls.collect(), ..case.clone() }

@@ -23,7 +23,7 @@
 //! | 18 compress_canonical | | 1 for a reset, else 0 | |
 //!
 //! A frame's payload is its name whenever tables are compressed, so that keys can be learned again from payloads. Seals,
-//! compressions in slot order, lookups, reads of sizes and totals, undos and copies are not in a sample, and causes neither: the
+//! compressions in slot order, lookups, reads of sizes and totals, undos, copies and moves are not in a sample, and causes neither: the
 //! program that replays it knows none. Every frame's size is 0, and stands in no record.
 
 use crate::calls::{Call, Case, NEVER, Name};
@@ -173,7 +173,7 @@ fn push(bytes: &mut Vec<u8>, call: &Call, refusal: u64, answers: &[u64]) {
         Call::Seal(_) | Call::CompressWith(_) | Call::Lookup(_) | Call::GetSize(_) | Call::GetTotal(_) => {
             unreachable!("a sample has no such call")
         }
-        Call::Undo | Call::CloneFrom | Call::Change | Call::WriteFile | Call::ReadFile => {
+        Call::Undo | Call::CloneFrom | Call::Transfer(_) | Call::Change | Call::WriteFile | Call::ReadFile => {
             unreachable!("a sample has no such call")
         }
     };

@@ -1,4 +1,5 @@
-//! The entries of include/doorsedge.h over the plain Rust [model], where the proved archive is not at hand.
+//! The entries of include/doorsedge.h over the plain Rust [model], where the proved archive is not at hand. Where DOORSEDGE_WRONG names a
+//! mistake ([wrong]), it is made: tests/wrong-archives.sh shows that the tests find each.
 //!
 //! # Safety
 //!
@@ -6,18 +7,20 @@
 #![allow(clippy::missing_safety_doc, clippy::too_many_arguments)]
 
 mod files;
+mod two;
+mod wrong;
 mod wrong_files;
 
 use model::door::{Call, run};
-use model::{HEAD, Key, Source, check, copy};
+use model::{HEAD, Key, check};
 use std::slice::{from_raw_parts, from_raw_parts_mut};
 
 /// A lent table or buffer; null comes with length 0.
-unsafe fn lent<'a, T>(at: *mut T, len: usize) -> &'a mut [T] {
+pub(crate) unsafe fn lent<'a, T>(at: *mut T, len: usize) -> &'a mut [T] {
     if at.is_null() { &mut [] } else { unsafe { from_raw_parts_mut(at, len) } }
 }
 
-unsafe fn lent_to_read<'a, T>(at: *const T, len: usize) -> &'a [T] {
+pub(crate) unsafe fn lent_to_read<'a, T>(at: *const T, len: usize) -> &'a [T] {
     if at.is_null() { &[] } else { unsafe { from_raw_parts(at, len) } }
 }
 
@@ -153,30 +156,6 @@ pub unsafe extern "C" fn doorsedge_union_ceiling(n: u64, out: *mut [u64; 1]) -> 
             0
         }
         Err(refusal) => refusal.result(),
-    }
-}
-
-#[unsafe(no_mangle)]
-pub unsafe extern "C" fn doorsedge_clone_from(
-    head: *mut u64,
-    elems: *mut u64,
-    elems_len: usize,
-    shared: *mut u64,
-    shared_len: usize,
-    from_head: *const u64,
-    from_elems: *const u64,
-    from_elems_len: usize,
-    from_shared: *const u64,
-    from_shared_len: usize,
-) -> u64 {
-    unsafe {
-        let from = Source {
-            head: &*(from_head as *const [u64; HEAD]),
-            elems: lent_to_read(from_elems, from_elems_len),
-            shared: lent_to_read(from_shared, from_shared_len),
-        };
-        let head = &mut *(head as *mut [u64; HEAD]);
-        copy::run(check::sound, head, lent(elems, elems_len), lent(shared, shared_len), from)
     }
 }
 

@@ -9,6 +9,7 @@
 //! - [ordered]: compression in slot order
 //! - [undo]: the last union taken back
 //! - [copy]: a study copied to other tables
+//! - [transfer]: a study moved to other tables
 //! - [file]: run files, written and read
 //! - [check]: the soundness check, linear
 //! - [sets]: soundness sentence by sentence, by sets, to test the check with
@@ -26,9 +27,11 @@ pub mod layout;
 pub mod ordered;
 pub mod rows;
 pub mod sets;
+pub mod transfer;
 pub mod undo;
 pub mod whole;
 
 pub use copy::Source;
 pub use layout::{Cause, FRAME, HEAD, HEADER, Head, Key, Memory, PAIR, PLACE, Pool, RECORD, Refusal, SEAL_PLACE};
 pub use rows::{Joined, Removed, Rows};
+pub use transfer::Study;

@@ -107,7 +107,7 @@ impl Rows<'_> {
         }
         let scratch = &mut scratch[..needed];
         let overflow = self.head.next_generation(reset);
-        let headers = self.gather(scratch);
+        let headers = self.gather(self.head.generation, scratch);
         self.elems.copy_from_slice(scratch);
         scratch.fill(0);
         self.shared.fill(0);
@@ -118,8 +118,7 @@ impl Rows<'_> {
 
     /// Writes the frames in their new order to the start of `rows`, zeros after them, and answers the headers in theirs.
     /// The generations in the table are zeroed on the way, so that no ring is met twice.
-    fn gather(&mut self, rows: &mut [u64]) -> Vec<u64> {
-        let generation = self.head.generation;
+    pub(crate) fn gather(&mut self, generation: u64, rows: &mut [u64]) -> Vec<u64> {
         let mut headers = Vec::with_capacity(self.head.shared.live as usize * HEADER);
         let mut at = 0;
         for lowest in 1..=self.head.elems.extent {

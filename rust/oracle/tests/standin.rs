@@ -169,6 +169,38 @@ fn a_copy_by_clone_from_with() {
     assert_eq!((wide.capacity(), wide.capacity_shared()), (20, 30));
 }
 
+/// `transfer_canonical_reallocating` clears the target and gives its frames the generation handed in, in canonical order; it leaves an
+/// empty source alone. Of the text is that, the order in which room is made, and that each frame is removed from the source, which then
+/// has no frame; that its slots are on its free chains, and by how much its generation rose, is the stand-in's.
+#[test]
+fn a_move_by_transfer_canonical() {
+    let generation = |n| std::num::NonZeroU32::new(n).unwrap();
+    let mut a = A::with_min_capacity_separated(9, 9).unwrap();
+    let p: Vec<P0> = (1..=4).map(|n| a.insert_surject(n, 100 * n)).collect();
+    a.insert(p[1], 5);
+    let _ = a.union(p[3], p[1]).unwrap();
+    a.remove_element(p[0]).allow();
+    let mut moved = A::with_min_capacity_separated(2, 3).unwrap();
+    let old = moved.insert_surject(77, 77);
+    let mut told = vec![];
+    let map = |q, t: triple_arena::InvalidationOption<u64>, p| {
+        let t = t.allow();
+        told.push(format!("{q:?} {t} {p:?}"));
+        t
+    };
+    moved.transfer_canonical_reallocating(generation(9), &mut a, map, |s| s).unwrap();
+    sound(&moved);
+    // slot 2 is the lowest of the run of 2, 4 and 5
+    assert_eq!([&told[0], &told[3]], ["P0[2](2) 2 P0[1](9)", "P0[3](2) 3 P0[4](9)"]);
+    assert_eq!((moved.capacity(), moved.capacity_shared(), moved.len(), moved.len_shared()), (4, 3, 4, 2));
+    assert_eq!(moved.shared_vals().copied().collect::<Vec<_>>(), [200, 300]);
+    assert!(moved.get(old).is_none() && a.is_empty() && a.len_shared() == 0);
+    assert_eq!(format!("{:?}", moved.insert_surject(8, 8)), "P0[5](9)");
+    // an empty source empties the target
+    moved.transfer_canonical_reallocating(generation(3), &mut a, |_, t, _| t.allow(), |s: u64| s).unwrap();
+    assert_eq!((moved.len(), format!("{:?}", moved.insert_surject(9, 9))), (0, "P0[1](3)".to_owned()));
+}
+
 /// The files that are compiled are the published ones, byte for byte: lengths, and sums by FNV-1a.
 #[test]
 fn the_three_files_are_as_published() {

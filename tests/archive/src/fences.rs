@@ -1,6 +1,6 @@
 //! What is lent, in one piece of memory with canaries around each part.
 
-use crate::Lent;
+use crate::{Host, Lent};
 use std::ops::Range;
 
 /// Canaries between two parts.
@@ -36,9 +36,20 @@ impl<const N: usize> Fenced<N> {
         Lent { head: head.cast(), elems, shared, buffer: &mut [], out: std::ptr::null_mut() }
     }
 
+    /// Where a part begins.
+    pub fn at(&mut self, part: usize) -> *mut u64 {
+        // Safety: the part lies in the numbers
+        unsafe { self.numbers.as_mut_ptr().add(self.parts[part].start) }
+    }
+
     pub fn part(&self, at: usize) -> &[u64] {
         &self.numbers[self.parts[at].clone()]
     }
+}
+
+/// Two studies and an `out`, as parts.
+pub fn two_studies<'a>(target: &'a Host, source: &'a Host, out: &'a [u64]) -> [&'a [u64]; 7] {
+    [&target.head, &target.elems, &target.shared, &source.head, &source.elems, &source.shared, out]
 }
 
 fn fence(numbers: &mut Vec<u64>) {

@@ -8,6 +8,7 @@ pub mod memories;
 pub mod mutated;
 pub mod pages;
 pub mod random;
+pub mod transfers;
 
 use doorsedge::sys::*;
 use model::door::{self, Call};

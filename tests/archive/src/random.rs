@@ -62,8 +62,22 @@ impl Random {
 pub struct Tally(pub BTreeMap<&'static str, BTreeMap<u64, u64>>);
 
 /// What an entry can return but 0, in its columns: number and cause.
-pub const GIVEN: [(u64, u64); 13] =
-    [(1, 0), (2, 0), (9, 0), (10, 0), (11, 0), (3, 1), (3, 2), (3, 3), (4, 0), (12, 0), (6, 0), (5, 0), (7, 0)];
+pub const GIVEN: [(u64, u64); 14] = [
+    (1, 0),
+    (2, 0),
+    (9, 0),
+    (10, 0),
+    (11, 0),
+    (13, 0),
+    (3, 1),
+    (3, 2),
+    (3, 3),
+    (4, 0),
+    (12, 0),
+    (6, 0),
+    (5, 0),
+    (7, 0),
+];
 
 impl Tally {
     fn add(&mut self, entry: &'static str, result: u64) {
@@ -105,6 +119,11 @@ pub fn compare(calls: u64, seed: u64) -> Tally {
             tally.add("clone_from", result);
             continue;
         }
+        if r.one_in(24) {
+            let result = moved(&mut grown, &mut review, &mut r);
+            tally.add("transfer_canonical", result);
+            continue;
+        }
         let way = r.below(8);
         let mut host = match way {
             0 => noise(&mut r),
@@ -124,6 +143,41 @@ pub fn compare(calls: u64, seed: u64) -> Tally {
         }
     }
     tally
+}
+
+/// A study moved to other tables: from the grown state, a changed one or noise; to the state of another study, a changed one, noise, or a
+/// state grown in tables about as large as the source needs. Both go on, in turn, whether or not it was accepted.
+fn moved(grown: &mut Host, review: &mut Host, r: &mut Random) -> u64 {
+    let mut source = match r.below(8) {
+        0 => noise(r),
+        1 | 2 => damaged(grown, r),
+        _ => grown.clone(),
+    };
+    let mut target = match r.below(8) {
+        0 => noise(r),
+        1 => damaged(review, r),
+        2..=4 => review.clone(),
+        _ => {
+            let mut host = Host::fresh(close(source.head[3], r), close(source.head[7], r));
+            let many = r.below(9);
+            (0..many).for_each(|_| drop(host.call(any_call(&host, r), &[])));
+            host
+        }
+    };
+    let given = r.of(&[0, 1, 1, 2, 3, 7, 1_000_000, u32::MAX - 1, u32::MAX]);
+    match target.transfer_from(given, &mut source) {
+        Ok(_) => {
+            (*grown, *review) = if r.one_in(4) { (source, target) } else { (target, source) };
+            0
+        }
+        Err(number) => number,
+    }
+}
+
+/// A capacity as large as this live number, or up to three slots more or less.
+fn close(live: u64, r: &mut Random) -> u64 {
+    let live = live.min(90);
+    (live + r.of(&[0, 0, 0, 1, 3])).saturating_sub(r.of(&[0, 0, 0, 1, 1, 3])).max(1)
 }
 
 /// A study copied to other tables: from the grown state, a changed one or noise; to the state of another study, a changed one, or

@@ -227,10 +227,11 @@ fn random_numbers() {
         let sealed = ["insert", "insert_in_place", "union", "seal"].contains(&name);
         assert_eq!(had(12), sealed, "{name}: {counts:?}");
         assert_eq!(had(10), name == "undo", "{name}: {counts:?}");
+        assert_eq!(had(13), name == "transfer_canonical", "{name}: {counts:?}");
         assert_eq!([9, 11].map(had), [name == "read_file"; 2], "{name}: {counts:?}");
         assert_eq!(had(2), !["fresh", "read_file"].contains(&name), "{name}: {counts:?}");
         let room: &[u64] = match name {
-            "clone_from" | "insert_surject" | "read_file" => &[5, 6],
+            "clone_from" | "insert_surject" | "read_file" | "transfer_canonical" => &[5, 6],
             "insert" | "insert_in_place" => &[5],
             _ => &[],
         };
@@ -246,6 +247,7 @@ fn random_numbers() {
             "fresh",
             "insert_surject",
             "read_file",
+            "transfer_canonical",
             "undo",
             "write_file",
         ];

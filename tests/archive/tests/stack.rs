@@ -1,8 +1,9 @@
 //! Canonical compression's follow of class entries is a recursion in the source. It must be a loop in the archive: its
 //! longest way, 65,535 steps, has to run in a small stack. So has the compression in slot order, where every row moves, the
-//! largest union with its undo, the largest copy, and the largest files, written and read.
+//! largest union with its undo, the largest copy and move, and the largest files, written and read.
 
 use archive::copies::copy_at;
+use archive::transfers::transfer_at;
 use archive::{Lent, head, run};
 use doorsedge::sys::{doorsedge_read_file, doorsedge_write_file};
 use model::door::Call;
@@ -100,6 +101,34 @@ fn copied() {
 #[test]
 fn the_largest_copy_in_a_small_stack() {
     in_a_small_stack(copied);
+}
+
+/// One ring through every slot, against their order, to tables that are full of rings of one.
+fn moved() {
+    let ring = |slot: u64| [7, slot, 1, slot % FRAMES + 1, (slot + FRAMES - 2) % FRAMES + 1, 3];
+    let mut numbers = head([FRAMES, FRAMES, 0, FRAMES, 1, 1, 0, 1, 7]);
+    let mut elems: Vec<u64> = (1..=FRAMES).flat_map(ring).collect();
+    let mut shared = vec![FRAMES, 9, 0, 0, 3 * FRAMES];
+    let mut to = head([FRAMES, FRAMES, 0, FRAMES, FRAMES, FRAMES, 0, FRAMES, 1]);
+    let mut e: Vec<u64> = (1..=FRAMES).flat_map(|slot| [1, slot, slot, slot, slot, 2]).collect();
+    let mut s: Vec<u64> = (1..=FRAMES).flat_map(|slot| [1, slot, 0, 0, 2]).collect();
+    let lent = |head, elems, shared| Lent { head, elems, shared, buffer: &mut [], out: std::ptr::null_mut() };
+    let (target, source) = (lent(&mut to, &mut e[..], &mut s[..]), lent(&mut numbers, &mut elems[..], &mut shared[..]));
+    let mut out = [9];
+    // Safety: all seven are apart, and borrowed mutably
+    assert_eq!((unsafe { transfer_at(target, 5, source, out.as_mut_ptr()) }, out), (0, [0]));
+    assert_eq!(to, head([FRAMES, FRAMES, 0, FRAMES, FRAMES, 1, 0, 1, 5]));
+    let payload = |slot: u64| (FRAMES + 1 - slot) % FRAMES + 1;
+    let row = |slot: u64| [5, payload(slot), 1, (slot + FRAMES - 2) % FRAMES + 1, slot % FRAMES + 1, 3];
+    assert!((1..=FRAMES).flat_map(row).eq(e));
+    assert!(s[..HEADER] == [FRAMES, 9, 0, 0, 3 * FRAMES] && s[HEADER..].iter().all(|number| *number == 0));
+    assert_eq!(numbers, head([FRAMES, 0, 0, 0, 1, 0, 0, 0, 8]));
+    assert!(elems.iter().chain(&shared).all(|number| *number == 0));
+}
+
+#[test]
+fn the_largest_move_in_a_small_stack() {
+    in_a_small_stack(moved);
 }
 
 /// Rings of one, the headers the other way round, and one ring of all.

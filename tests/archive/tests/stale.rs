@@ -57,6 +57,19 @@ fn next_call(host: &Host, r: &mut Random) -> Call {
     }
 }
 
+/// The study goes to other tables, which is a clear of these; or one of other tables comes here, which is a fresh call. Answers whether
+/// that ended the premise.
+fn moved(host: &mut Host, r: &mut Random) -> bool {
+    let mut other = Host::fresh(host.head[0], host.head[4]);
+    let generation = 1 + r.below(3) as u32;
+    if r.one_in(4) {
+        assert_eq!(other.call(new_run(), &[]).number, 0);
+        assert_eq!(host.transfer_from(generation, &mut other), Ok(false));
+        return true;
+    }
+    other.transfer_from(generation, host).unwrap()
+}
+
 /// A run of calls; answers how many lookups of gone keys were made, and how often the premise ended.
 fn run(host: &mut Host, calls: u64, r: &mut Random) -> (u64, u64) {
     let (mut gone, mut looked, mut ended) = (BTreeSet::new(), 0, 0);
@@ -64,15 +77,20 @@ fn run(host: &mut Host, calls: u64, r: &mut Random) -> (u64, u64) {
     for _ in 0..calls {
         let before = numbers(&host.keys());
         let call = next_call(host, r);
-        let said = host.call(call, &lent);
+        let is_end = if r.one_in(16) {
+            moved(host, r)
+        } else {
+            let said = host.call(call, &lent);
+            said.number == 0 && ends(host, &call, &said)
+        };
         let now = numbers(&host.keys());
-        if said.number == 0 && ends(host, &call, &said) {
+        if is_end {
             gone.clear();
             ended += 1;
         } else {
             gone.extend(before.difference(&now));
         }
-        assert!(gone.is_disjoint(&now), "{call:?} brought a key back: {:?}", gone.intersection(&now));
+        assert!(gone.is_disjoint(&now), "{call:?} or a move brought a key back: {:?}", gone.intersection(&now));
         for &(slot, generation) in gone.iter().rev().take(4) {
             assert_eq!(host.call(Call::Lookup(key(slot, generation)), &[]).number, 3, "after {call:?}");
             looked += 1;
@@ -127,4 +145,12 @@ fn each_proviso_is_needed() {
         assert_eq!(host.call(new_run(), &[]).out[..2], [1, 1], "{call:?}");
         assert_eq!(host.call(Call::Lookup(key(1, 1)), &[]).number, 0);
     }
+    // a move to these tables, and from them where the last generation is passed
+    let mut host = gone(2);
+    assert_eq!(host.transfer_from(1, &mut Host::fresh(1, 1)), Ok(false));
+    assert_eq!(host.call(new_run(), &[]).out[..2], [1, 1]);
+    let mut host = gone(LAST);
+    assert_eq!(host.call(new_run(), &[]).out[..2], [1, LAST]);
+    assert_eq!(Host::fresh(1, 1).transfer_from(9, &mut host), Ok(true));
+    assert_eq!(host.call(new_run(), &[]).out[..2], [1, 1]);
 }

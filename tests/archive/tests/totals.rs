@@ -332,12 +332,12 @@ fn any(host: &Host, payload: u64, r: &mut Random) -> Call {
 }
 
 /// Reckoned from the arguments of accepted calls: after each call every frame's size is the one that it was given, and every
-/// run's total the sum of those of its frames. There are two studies, and copies from the one to the other: for the target of a copy
-/// the history starts anew, the copied frames put in.
+/// run's total the sum of those of its frames. There are two studies, and copies and moves from the one to the other: for the target
+/// the history starts anew, the frames that came put in; for the source of a move it is that of a clear.
 #[test]
 fn totals_are_those_of_the_history() {
     let mut r = Random::new(6);
-    let (mut largest, mut accepted, mut undone, mut copied) = (0, 0, 0, 0);
+    let (mut largest, mut accepted, mut undone, mut copied, mut moved) = (0, 0, 0, 0, 0);
     for _ in 0..400 {
         let most = 1 + r.below(14);
         let mut host = Host::fresh(most, 1 + r.below(most));
@@ -347,6 +347,10 @@ fn totals_are_those_of_the_history() {
             if r.one_in(8) && other.0.copy_from(&host) == 0 {
                 other.1 = History { frames: history.frames.clone(), ..History::default() };
                 copied += 1;
+            }
+            if r.one_in(40) && other.0.transfer_from(1 + r.below(3) as u32, &mut host).is_ok() {
+                other.1 = History { frames: std::mem::take(&mut history).frames, ..History::default() };
+                moved += 1;
             }
             if r.one_in(6) {
                 std::mem::swap(&mut host, &mut other.0);
@@ -368,7 +372,7 @@ fn totals_are_those_of_the_history() {
         }
     }
     assert!(largest > 2 * MOST_BYTES && accepted > 10_000, "{largest} {accepted}");
-    assert!(undone > 100 && copied > 1_000, "{undone} {copied}");
+    assert!(undone > 100 && copied > 1_000 && moved > 200, "{undone} {copied} {moved}");
 }
 
 /// The total is the sum along next from every frame, read from the tables.

@@ -1,9 +1,10 @@
 //! Refusals, below the table: a refusal leaves head, tables, outputs and scratch untouched. Here they lie in pages that
 //! cannot be written, where a store even of the numbers that stood there already ends the process: every refusal of
-//! every entry is had there. So lies the source of every copy, accepted or not.
+//! every entry is had there. So lies the source of every copy, accepted or not, and the tables of an empty source of a move.
 
 use archive::copies::copy_at;
 use archive::pages::{End, Pages, Parts, end_of, is_fault, listed};
+use archive::transfers::{modelled, transfer_at};
 use archive::{Host, UNTOUCHED, every_call, key, run_at};
 use doorsedge::sys::doorsedge_union_ceiling;
 use model::door::{self, Call};
@@ -23,6 +24,13 @@ fn end_of_copy(to: &Parts, from: &Parts) -> End {
     let (to, from) = (to.lent(), from.lent());
     // Safety: as above
     end_of(|| unsafe { copy_at(to, from) })
+}
+
+/// The same of a move; `out` is the target's.
+fn end_of_move(to: &Parts, generation: u32, from: &Parts) -> End {
+    let (to, from) = (to.lent(), from.lent());
+    // Safety: as above
+    end_of(|| unsafe { transfer_at(to, generation, from, to.out.cast()) })
 }
 
 /// The model's result and what it leaves, with `out` last.
@@ -155,6 +163,21 @@ fn refusals_write_nothing() {
             had.insert(("clone_from".to_owned(), number));
         }
     }
+    for (target, source, generation) in moves() {
+        let (number, ..) = modelled(check::sound, [&target, &source], generation);
+        if number == 0 {
+            continue;
+        }
+        let (to, from) = (Parts::of(&target, &[]), Parts::of(&source, &[]));
+        to.0.iter().chain(&from.0).for_each(Pages::lock);
+        let end = end_of_move(&to, generation, &from);
+        if is_fault(&end) {
+            wrote.insert(("transfer_canonical", number));
+        } else {
+            assert_eq!(end, End::Said(number), "a move of {source:?} to {target:?}");
+            had.insert(("transfer_canonical".to_owned(), number));
+        }
+    }
     assert!(wrote.is_empty(), "these refused, and wrote: {wrote:?}");
     // the one entry that takes no tables
     assert_eq!(ceiling_locked(0), End::Said(13));
@@ -185,6 +208,41 @@ fn sources() -> impl Iterator<Item = Host> {
         host
     });
     hosts().into_iter().chain(last_alone)
+}
+
+/// What is moved, and where to: every state to every state.
+fn moves() -> impl Iterator<Item = (Host, Host, u32)> {
+    let targets = hosts().into_iter().chain([Host::fresh(1, 3), Host::fresh(4, 1)]);
+    targets
+        .flat_map(|to| hosts().into_iter().flat_map(move |from| [0, 5].map(|given| (to.clone(), from.clone(), given))))
+}
+
+/// Each part that an accepted move changes is stored to, of target and source. Of an empty source no table is.
+#[test]
+fn a_move_writes_both() {
+    let (mut accepted, mut empty) = (0, 0);
+    for (target, source, generation) in moves() {
+        let (number, [to, from], out) = modelled(check::sound, [&target, &source], generation);
+        if number != 0 {
+            continue;
+        }
+        accepted += 1;
+        let parts = |host: Host, out: &[u64]| [host.head.to_vec(), host.elems, host.shared, vec![], out.to_vec()];
+        let (after, left) = (parts(to, &[out[0], UNTOUCHED, UNTOUCHED, UNTOUCHED]), parts(from, &[UNTOUCHED; 4]));
+        assert_eq!(end_of_move(&Parts::of(&target, &[]), generation, &Parts::of(&source, &[])), End::Said(0));
+        for (side, part) in [0, 1].iter().flat_map(|side| (0..5).map(move |part| (*side, part))) {
+            let both = [Parts::of(&target, &[]), Parts::of(&source, &[])];
+            both[side].0[part].lock();
+            let end = end_of_move(&both[0], generation, &both[1]);
+            if both[side].0[part].numbers() != [&after, &left][side][part] {
+                assert!(is_fault(&end), "a move does not write part {part} of {side}");
+            } else if source.head[3] == 0 && side == 1 && part > 0 {
+                assert_eq!(end, End::Said(0), "a move writes part {part} of an empty source");
+                empty += 1;
+            }
+        }
+    }
+    assert!(accepted > 50 && empty > 10, "{accepted} accepted, {empty} parts of empty sources");
 }
 
 /// The source of an accepted copy is not stored to, and each part of the target that it changes is.
