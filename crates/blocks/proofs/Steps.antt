@@ -7,15 +7,15 @@ use native.Mathlib.Omega.{arith}
 use lib.ListN.{length, take, drop, replicate}
 use lib.Seq.{drop-length}
 use Rattle.rules.specs.declared.Head.{Head}
-use Rattle.rules.specs.Tables.{frameWidth, headerWidth, state_of}
+use Rattle.rules.specs.Tables.{frame_width, header_width, state_of}
 use Rattle.rules.specs.Slots.{empty}
-use Rattle.rules.specs.Drains.{keyWidth}
-use Rattle.rules.specs.Script.{capacity, lineMost, lineReply}
-use Rattle.rules.proofs.laws.Empty.{empty-keeps}
-use Rattle.lines.specs.Obeys.{replyMost}
+use Rattle.rules.specs.Drains.{key_width}
+use Rattle.rules.specs.Script.{capacity, line_most, line_reply}
+use Rattle.rules.proofs.Laws.Empty.{empty_keeps}
+use Rattle.lines.specs.Obeys.{reply_most}
 use Rattle.lines.specs.declared.stream.Gathered.{Gathered}
-use Rattle.lines.specs.Stream.{Gathers, freshState}
-use Rattle.lines.proofs.Follows.{follows-block, follows-room, follows-part, follows-line, follows-start}
+use Rattle.lines.specs.Stream.{Gathers, fresh_state}
+use Rattle.lines.proofs.Follows.{follows_block, follows-room, follows_part, follows-line, follows-start}
 use Rattle.blocks.specs.declared.Progress.{Progress}
 use Rattle.blocks.specs.Progress.{Working, Answered, Doing, Advanced, Fed}
 use Rattle.stdio.specs.declared.Sent.{Sent}
@@ -30,10 +30,10 @@ pub record Same (lent before kept keys' out' line' : List ℕ) : Type 0 where
 module _ {block : List ℕ} {p : Progress} {elems shared keys out line : List ℕ} {g : Gathered} {keys' out' line' : List ℕ}
     (w : Working (state_of p.head elems shared) keys out line p.fill p.held) (gathered : Gathers block p.at line p.held line' g) (s : Same keys out line keys' out' line') where
   -- a whole line is obeyed
-  pub advanced-line : {r : Progress} {elems' shared' : List ℕ} → g.whole ≡ true
-      → Answered (lineReply (state_of p.head elems shared) (take g.held line')) (state_of r.head elems' shared') out (record { head = p.head; fill = p.fill; held = g.held; at = g.next; sent = p.sent }) out' r
+  pub advanced_line : {r : Progress} {elems' shared' : List ℕ} → g.whole ≡ true
+      → Answered (line_reply (state_of p.head elems shared) (take g.held line')) (state_of r.head elems' shared') out (record { head = p.head; fill = p.fill; held = g.held; at = g.next; sent = p.sent }) out' r
       → Advanced block p elems shared out line r elems' shared' keys' out' line'
-  advanced-line e a =
+  advanced_line e a =
       record {
         working =
             record {
@@ -57,15 +57,15 @@ module _ {block : List ℕ} {p : Progress} {elems shared keys out line : List �
       }
 
 -- a part of a line is held
-pub advanced-part : {block : List ℕ} {p : Progress} {elems shared keys out line : List ℕ} {g : Gathered} {line' : List ℕ}
+pub advanced_part : {block : List ℕ} {p : Progress} {elems shared keys out line : List ℕ} {g : Gathered} {line' : List ℕ}
     → Working (state_of p.head elems shared) keys out line p.fill p.held → Gathers block p.at line p.held line' g → g.whole ≡ false
     → Advanced block p elems shared out line (record { head = p.head; fill = p.fill; held = g.held; at = g.next; sent = p.sent }) elems shared keys out line'
-advanced-part w g e =
+advanced_part w g e =
     record {
       working = record { ready = w.ready; keys = w.keys; reply = w.reply; line = omega (arith, g.long, w.line); fill = w.fill; held = omega (arith, g.long, g.room) };
       within = g.within;
       onward = g.onward;
-      does = λ input d. record { gone = d.gone; handed = d.handed; follows = follows-part d.follows g e };
+      does = λ input d. record { gone = d.gone; handed = d.handed; follows = follows_part d.follows g e };
     }
 
 -- ---- a block
@@ -76,12 +76,12 @@ module _ (block : List ℕ) (p : Progress) (elems shared out line : List ℕ) wh
     pub within : q.at ≤ length block
     pub does : (past : List ℕ) → Doing past [] p elems shared out line → Doing (past ++ block) (drop q.at block) q elems' shared' out' line'
 
-  pub feeding-start : {keys : List ℕ} → p.at ≡ 0 → Working (state_of p.head elems shared) keys out line p.fill p.held → Feeding p elems shared keys out line
-  feeding-start e w = record { working = w; within = rw e (omega arith); does = λ past d. record { gone = d.gone; handed = d.handed; follows = rw e (follows-block d.follows) } }
+  pub feeding_start : {keys : List ℕ} → p.at ≡ 0 → Working (state_of p.head elems shared) keys out line p.fill p.held → Feeding p elems shared keys out line
+  feeding_start e w = record { working = w; within = rw e (omega arith); does = λ past d. record { gone = d.gone; handed = d.handed; follows = rw e (follows_block d.follows) } }
 
-  pub feeding-next : {q r : Progress} {elems' shared' keys' out' line' elems'' shared'' keys'' out'' line'' : List ℕ} → Feeding q elems' shared' keys' out' line'
+  pub feeding_next : {q r : Progress} {elems' shared' keys' out' line' elems'' shared'' keys'' out'' line'' : List ℕ} → Feeding q elems' shared' keys' out' line'
       → Advanced block q elems' shared' out' line' r elems'' shared'' keys'' out'' line'' → Feeding r elems'' shared'' keys'' out'' line''
-  feeding-next f a = record { working = a.working; within = a.within; does = λ past d. a.does (past ++ block) (f.does past d) }
+  feeding_next f a = record { working = a.working; within = a.within; does = λ past d. a.does (past ++ block) (f.does past d) }
 
 -- the place in the block is not told on
 pub fed : {block : List ℕ} {p q : Progress} {elems shared out line elems' shared' keys' out' line' : List ℕ}
@@ -114,25 +114,25 @@ pub record Reading (p : Progress) (elems shared keys out line : List ℕ) : Type
   pub input : List ℕ
   pub doing : Doing input [] p elems shared out line
 
-pub reading-next : {block : List ℕ} {p r : Progress} {elems shared keys out line elems' shared' keys' out' line' : List ℕ}
+pub reading_next : {block : List ℕ} {p r : Progress} {elems shared keys out line elems' shared' keys' out' line' : List ℕ}
     → Reading p elems shared keys out line → Fed block p elems shared out line r elems' shared' keys' out' line' → Reading r elems' shared' keys' out' line'
-reading-next {block} d f = record { working = f.working; input = d.input ++ block; doing = f.does d.input d.doing }
+reading_next {block} d f = record { working = f.working; input = d.input ++ block; doing = f.does d.input d.doing }
 
-pub reading-start : (head : Head) (sent : Sent) (elems shared keys out line : List ℕ) → head ≡ freshState.head → Handed sent []
-    → Working (state_of freshState.head elems shared) keys out line 0 0 → state_of freshState.head elems shared ≡ freshState
+pub reading_start : (head : Head) (sent : Sent) (elems shared keys out line : List ℕ) → head ≡ fresh_state.head → Handed sent []
+    → Working (state_of fresh_state.head elems shared) keys out line 0 0 → state_of fresh_state.head elems shared ≡ fresh_state
     → Reading (record { head = head; fill = 0; held = 0; at = 0; sent = sent }) elems shared keys out line
-reading-start head sent elems shared keys out line e h w s =
+reading_start head sent elems shared keys out line e h w s =
     record { working = rw e w; input = []; doing = record { gone = []; handed = h; follows = rw (e, s) (follows-start out line) } }
 
 -- fresh tables are ready, and the buffers are long enough
-pub started : (elems shared keys out line : List ℕ) → elems ≡ replicate (capacity * frameWidth) 0 → shared ≡ replicate (capacity * headerWidth) 0
-    → length keys ≡ capacity * keyWidth → replyMost ≤ length out → lineMost < length line
-    → Working (state_of freshState.head elems shared) keys out line 0 0 × (state_of freshState.head elems shared ≡ freshState)
+pub started : (elems shared keys out line : List ℕ) → elems ≡ replicate (capacity * frame_width) 0 → shared ≡ replicate (capacity * header_width) 0
+    → length keys ≡ capacity * key_width → reply_most ≤ length out → line_most < length line
+    → Working (state_of fresh_state.head elems shared) keys out line 0 0 × (state_of fresh_state.head elems shared ≡ fresh_state)
 unfolding empty
 started elems shared keys out line e s k o l =
-    let q : state_of freshState.head elems shared ≡ freshState = rw (e, s) in (
+    let q : state_of fresh_state.head elems shared ≡ fresh_state = rw (e, s) in (
       record {
-        ready = rw q (empty-keeps capacity capacity 1 (omega arith, omega arith) (omega arith, omega arith) (omega arith, omega arith));
+        ready = rw q (empty_keeps capacity capacity 1 (omega arith, omega arith) (omega arith, omega arith) (omega arith, omega arith));
         keys = k;
         reply = o;
         line = l;

@@ -1,10 +1,10 @@
 -- Between lines: what the program's parts promise one another, in the terms of Script.
 use Rattle.std.specs.Prelude.{ℕ, ◌+◌, ◌*◌, ◌≤◌, ◌<◌, ◌≡◌, List, [], ◌++◌, length, take, drop}
 use Rattle.rules.specs.Tables.{State, state_of}
-use Rattle.rules.specs.Drains.{keyWidth}
+use Rattle.rules.specs.Drains.{key_width}
 use Rattle.rules.specs.Calls.{Ready}
-use Rattle.rules.specs.Script.{capacity, lineMost, Reply, output}
-use Rattle.lines.specs.Obeys.{replyMost, ObeysLine}
+use Rattle.rules.specs.Script.{capacity, line_most, Reply, output}
+use Rattle.lines.specs.Obeys.{reply_most, ObeysLine}
 use Rattle.lines.specs.Stream.{Follows}
 use Rattle.stdio.specs.declared.Sent.{Sent}
 use Rattle.stdio.specs.Handed.{Handed}
@@ -14,9 +14,9 @@ use Rattle.blocks.specs.declared.Progress.{Progress}
 -- the state is ready for a line, and the buffers are as long as a line and its reply need
 pub record Working (st : State) (lent out kept : List ℕ) (filled had : ℕ) : Type 0 where
   pub ready : Ready st
-  pub keys : length lent ≡ capacity * keyWidth
-  pub reply : replyMost ≤ length out
-  pub line : lineMost < length kept
+  pub keys : length lent ≡ capacity * key_width
+  pub reply : reply_most ≤ length out
+  pub line : line_most < length kept
   pub fill : filled ≤ length out
   pub held : had ≤ length kept
 
@@ -28,7 +28,7 @@ pub record Stays (out : List ℕ) (fill : ℕ) (gone : List ℕ) (at : ℕ) (sen
 
 -- the place of the next reply: what stood before it was handed to the writer, or is still there
 pub record Room (out : List ℕ) (fill : ℕ) (sent : Sent) (r : Place) : Type 0 where
-  pub room : r.at + replyMost ≤ length out
+  pub room : r.at + reply_most ≤ length out
   pub stays : (gone : List ℕ) → Handed sent gone → Stays out fill gone r.at r.sent
 
 -- a line was obeyed: its reply comes after all that was printed before it

@@ -1,14 +1,14 @@
 // A block of the script program's input (Script): each whole line in it obeyed, the replies into a buffer that is written when full.
 ghost use Rattle.std.specs.Prelude.{ℕ, ◌≤◌, length, take};
 ghost use Rattle.rules.specs.Tables.{state_of};
-ghost use Rattle.rules.specs.Script.{lineReply};
-ghost use Rattle.lines.specs.Obeys.{replyMost};
+ghost use Rattle.rules.specs.Script.{line_reply};
+ghost use Rattle.lines.specs.Obeys.{reply_most};
 ghost use Rattle.blocks.specs.Progress.{Working, Room, Answered, Advanced, Fed};
 
 use rules::Head;
 use stdio::Sent;
 
-// The most bytes of a reply with its newline; in the rules of lines, replyMost.
+// The most bytes of a reply with its newline; in the rules of lines, reply_most.
 const REPLY_MOST: usize = 21533;
 
 // Between lines: the head, how much of the output and of a line are held, the place in the block, and what went to the writer.
@@ -30,7 +30,7 @@ pub struct Place {
 
 // Room for a reply: where there is none, what stands in `out` is written first.
 fn make_room(out: &[u8], fill: usize, sent: Sent) -> Place
-    requires { (fill ≤ length out.now) × (replyMost ≤ length out.now) }
+    requires { (fill ≤ length out.now) × (reply_most ≤ length out.now) }
     ensures { Room out.now fill sent result }
 {
     if out.len() - fill < REPLY_MOST {
@@ -50,7 +50,7 @@ pub fn answer(
     line: &[u8],
 ) -> Progress
     requires { Working (state_of p.head elems.old shared.old) keys.old out.old line.now p.fill p.held }
-    ensures { Answered (lineReply (state_of p.head elems.old shared.old) (take p.held line.now)) (state_of result.head elems.new shared.new) out.old p out.new result }
+    ensures { Answered (line_reply (state_of p.head elems.old shared.old) (take p.held line.now)) (state_of result.head elems.new shared.new) out.old p out.new result }
 {
     let head = p.head;
     let held = p.held;

@@ -7,8 +7,8 @@ use native.Mathlib.Nat.{mul-le-mul_right}
 use native.Mathlib.Omega.{arith}
 use native.Mathlib.Decide.{ℕ_discrete, dec_lt}
 use lib.ListN.{length, get_or}
-use Rattle.rules.specs.Tables.{mostSlots, cell, put}
-use Rattle.rules.proofs.laws.Columns.{put-elsewhere, upd, upd_same, upd_other, length-put, put-at, put-off, cell-none}
+use Rattle.rules.specs.Tables.{most_slots, cell, put}
+use Rattle.rules.proofs.Laws.Columns.{put_elsewhere, upd, upd_same, upd_other, length-put, put-at, put_off, cell-none}
 use Rattle.slots.specs.Asked.{Within}
 use Rattle.copies.specs.Parts.{Zeroed}
 use Rattle.clones.specs.Clones.{Rowed, CloneOne, free}
@@ -24,15 +24,15 @@ pub rowing_start : (w : ℕ) (t : List ℕ) (b : ℕ) (from : List ℕ) (s : ℕ
 rowing_start w t b from s A B = record { rowed = record { long = refl; there = λ f h k. absurd (omega arith); still = λ f u h k. refl }; high = omega arith; to = A; of = B }
 
 module _ (w : ℕ) (t₀ : List ℕ) (b : ℕ) (from : List ℕ) (s : ℕ) (t : List ℕ) (i : ℕ) (R : Rowing w t₀ b from s t i) (l : i < w) where
-  pub rowing-to : Within w t b
-  rowing-to = record { some = R.to.some; inside = rw R.rowed.long R.to.inside }
+  pub rowing_to : Within w t b
+  rowing_to = record { some = R.to.some; inside = rw R.rowed.long R.to.inside }
 
-  pub rowing-next : (t' : List ℕ) (v : ℕ) → v ≡ cell w from i s → t' ≡ put w t b i v → Rowing w t₀ b from s t' (i + 1)
-  rowing-next t' v e q = record {
+  pub rowing_next : (t' : List ℕ) (v : ℕ) → v ≡ cell w from i s → t' ≡ put w t b i v → Rowing w t₀ b from s t' (i + 1)
+  rowing_next t' v e q = record {
     rowed = rw q (record {
       long = length-put w t b i v ∙ R.rowed.long;
       there = λ f h k. there f h k (ℕ_discrete f i);
-      still = λ f u h n. put-elsewhere w t b i v f u l h rowing-to.some rowing-to.inside n ∙ R.rowed.still f u h n;
+      still = λ f u h n. put_elsewhere w t b i v f u l h rowing_to.some rowing_to.inside n ∙ R.rowed.still f u h n;
     });
     high = omega arith;
     to = R.to;
@@ -40,31 +40,31 @@ module _ (w : ℕ) (t₀ : List ℕ) (b : ℕ) (from : List ℕ) (s : ℕ) (t : 
   }
     where
       there : (f : ℕ) → f < i + 1 → f < w → Dec (f ≡ i) → cell w (put w t b i v) f b ≡ cell w from f s
-      there f h k (yes z) = rw (z, put-at w t b i v l rowing-to.some rowing-to.inside) (upd_same (cell w t i) b v ∙ e)
-      there f h k (no z) = ap (λ (col : ℕ → ℕ). col b) (put-off w t b i v f l k z) ∙ R.rowed.there f (omega arith) k
+      there f h k (yes z) = rw (z, put-at w t b i v l rowing_to.some rowing_to.inside) (upd_same (cell w t i) b v ∙ e)
+      there f h k (no z) = ap (λ (col : ℕ → ℕ). col b) (put_off w t b i v f l k z) ∙ R.rowed.there f (omega arith) k
 
-pub rowing-done : (w : ℕ) (t₀ : List ℕ) (b : ℕ) (from : List ℕ) (s : ℕ) (t : List ℕ) (i : ℕ) → Rowing w t₀ b from s t i → w ≤ i → Rowed w t₀ b from s w t
-rowing-done w t₀ b from s t i R h = let z : i ≡ w = omega (arith, R.high) in rw z at R.rowed
+pub rowing_done : (w : ℕ) (t₀ : List ℕ) (b : ℕ) (from : List ℕ) (s : ℕ) (t : List ℕ) (i : ℕ) → Rowing w t₀ b from s t i → w ≤ i → Rowed w t₀ b from s w t
+rowing_done w t₀ b from s t i R h = let z : i ≡ w = omega (arith, R.high) in rw z at R.rowed
 
 -- ---- a part zeroed, by slots
-pub cell-of : (w : ℕ) (t t' : List ℕ) (f u : ℕ) → get_or t' (u * w + f) 0 ≡ get_or t (u * w + f) 0 → cell w t' f (suc u) ≡ cell w t f (suc u)
+pub cell_of : (w : ℕ) (t t' : List ℕ) (f u : ℕ) → get_or t' (u * w + f) 0 ≡ get_or t (u * w + f) 0 → cell w t' f (suc u) ≡ cell w t f (suc u)
 unfolding cell
-cell-of w t t' f u e = e
+cell_of w t t' f u e = e
 
 pub cell-zero : (w : ℕ) (t : List ℕ) (f u : ℕ) → get_or t (u * w + f) 0 ≡ 0 → cell w t f (suc u) ≡ 0
 unfolding cell
 cell-zero w t f u e = e
 
-pub zeroed-slots : (w : ℕ) (t : List ℕ) (a b : ℕ) (t' : List ℕ) → Zeroed t (a * w) (b * w) t' → (f u : ℕ) → f < w → a ≤ u → u < b → cell w t' f (suc u) ≡ 0
-zeroed-slots w t a b t' Z f u h lo hi = cell-zero w t' f u (Z.within (u * w + f) (omega (arith, mul-le-mul_right w lo)) (omega (arith, mul-le-mul_right w hi)))
+pub zeroed_slots : (w : ℕ) (t : List ℕ) (a b : ℕ) (t' : List ℕ) → Zeroed t (a * w) (b * w) t' → (f u : ℕ) → f < w → a ≤ u → u < b → cell w t' f (suc u) ≡ 0
+zeroed_slots w t a b t' Z f u h lo hi = cell-zero w t' f u (Z.within (u * w + f) (omega (arith, mul-le-mul_right w lo)) (omega (arith, mul-le-mul_right w hi)))
 
-pub zeroed-below : (w : ℕ) (t : List ℕ) (a b : ℕ) (t' : List ℕ) → Zeroed t (a * w) (b * w) t' → (f s : ℕ) → f < w → s ≤ a → cell w t' f s ≡ cell w t f s
-zeroed-below w t a b t' Z f zero h l = cell-none w t' f ∙ sym (cell-none w t f)
-zeroed-below w t a b t' Z f (suc u) h l = cell-of w t t' f u (Z.below (u * w + f) (omega (arith, mul-le-mul_right w l)))
+pub zeroed_below : (w : ℕ) (t : List ℕ) (a b : ℕ) (t' : List ℕ) → Zeroed t (a * w) (b * w) t' → (f s : ℕ) → f < w → s ≤ a → cell w t' f s ≡ cell w t f s
+zeroed_below w t a b t' Z f zero h l = cell-none w t' f ∙ sym (cell-none w t f)
+zeroed_below w t a b t' Z f (suc u) h l = cell_of w t t' f u (Z.below (u * w + f) (omega (arith, mul-le-mul_right w l)))
 
-pub zeroed-past : (w : ℕ) (t : List ℕ) (a b : ℕ) (t' : List ℕ) → Zeroed t (a * w) (b * w) t' → (f s : ℕ) → f < w → b < s → cell w t' f s ≡ cell w t f s
-zeroed-past w t a b t' Z f zero h l = absurd (omega arith)
-zeroed-past w t a b t' Z f (suc u) h l = let k : b ≤ u = omega arith in cell-of w t t' f u (Z.past (u * w + f) (omega (arith, mul-le-mul_right w k)))
+pub zeroed_past : (w : ℕ) (t : List ℕ) (a b : ℕ) (t' : List ℕ) → Zeroed t (a * w) (b * w) t' → (f s : ℕ) → f < w → b < s → cell w t' f s ≡ cell w t f s
+zeroed_past w t a b t' Z f zero h l = absurd (omega arith)
+zeroed_past w t a b t' Z f (suc u) h l = let k : b ≤ u = omega arith in cell_of w t t' f u (Z.past (u * w + f) (omega (arith, mul-le-mul_right w k)))
 
 -- ---- a free slot of the copy
 pub record Small (w : ℕ) (t : List ℕ) (s : ℕ) : Type 0 where
@@ -72,18 +72,18 @@ pub record Small (w : ℕ) (t : List ℕ) (s : ℕ) : Type 0 where
   pub high : s * w ≤ length t
   pub fits : s * w ≤ 4294967296
 
-pub small : (w : ℕ) (t : List ℕ) (s : ℕ) → Within w t s → s ≤ mostSlots → w ≤ mostSlots → Small w t s
+pub small : (w : ℕ) (t : List ℕ) (s : ℕ) → Within w t s → s ≤ most_slots → w ≤ most_slots → Small w t s
 small w t s W h k =
     let l : s - 1 ≤ s = omega arith in
     record { low = mul-le-mul_right w l; high = W.inside; fits = omega (arith, mul-le-mul_right w h) }
 
-pub clone-free : (w : ℕ) (t from : List ℕ) (used link s root : ℕ) (t₁ t₂ : List ℕ) → Within w t s → link < w → cell w from used s ≡ 0 → Zeroed t ((s - 1) * w) (s * w) t₁ → t₂ ≡ put w t₁ s link root → CloneOne w t from used link s root t₂ s
-clone-free w t from used link zero root t₁ t₂ W h e Z q = absurd (omega (arith, W.some))
-clone-free w t from used link (suc k) root t₁ t₂ W h e Z q =
+pub clone_free : (w : ℕ) (t from : List ℕ) (used link s root : ℕ) (t₁ t₂ : List ℕ) → Within w t s → link < w → cell w from used s ≡ 0 → Zeroed t ((s - 1) * w) (s * w) t₁ → t₂ ≡ put w t₁ s link root → CloneOne w t from used link s root t₂ s
+clone_free w t from used link zero root t₁ t₂ W h e Z q = absurd (omega (arith, W.some))
+clone_free w t from used link (suc k) root t₁ t₂ W h e Z q =
     rw q (free e (length-put w t₁ (suc k) link root ∙ Z.long)
     (ap (λ (col : ℕ → ℕ). col (suc k)) (put-at w t₁ (suc k) link root h (omega arith) fits) ∙ upd_same (cell w t₁ link) (suc k) root)
-    (λ f i n. ap (λ (col : ℕ → ℕ). col (suc k)) (put-off w t₁ (suc k) link root f h i n) ∙ zeroed-slots w t k (suc k) t₁ Z' f k i (omega arith) (omega arith))
-    (λ f u i n. put-elsewhere w t₁ (suc k) link root f u h i (omega arith) fits n ∙ still f u i n (dec_lt u (suc k))) refl)
+    (λ f i n. ap (λ (col : ℕ → ℕ). col (suc k)) (put_off w t₁ (suc k) link root f h i n) ∙ zeroed_slots w t k (suc k) t₁ Z' f k i (omega arith) (omega arith))
+    (λ f u i n. put_elsewhere w t₁ (suc k) link root f u h i (omega arith) fits n ∙ still f u i n (dec_lt u (suc k))) refl)
   where
     z : suc k - 1 ≡ k
     z = omega arith
@@ -95,5 +95,5 @@ clone-free w t from used link (suc k) root t₁ t₂ W h e Z q =
     fits = rw Z.long W.inside
 
     still : (f u : ℕ) → f < w → u ≢ suc k → Dec (u < suc k) → cell w t₁ f u ≡ cell w t f u
-    still f u i n (yes l) = zeroed-below w t k (suc k) t₁ Z' f u i (omega arith)
-    still f u i n (no l) = zeroed-past w t k (suc k) t₁ Z' f u i (omega arith)
+    still f u i n (yes l) = zeroed_below w t k (suc k) t₁ Z' f u i (omega arith)
+    still f u i n (no l) = zeroed_past w t k (suc k) t₁ Z' f u i (omega arith)

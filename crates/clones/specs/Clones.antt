@@ -1,9 +1,9 @@
 -- What a copy of a table asks and leaves.
 use Rattle.std.specs.Prelude.{◌≡◌, ◌≢◌, List, ℕ, ◌*◌, ◌≤◌, ◌<◌, length}
 use Rattle.rules.specs.declared.Pool.{Pool}
-use Rattle.rules.specs.Tables.{mostSlots, cell, Side, field_of}
-use Rattle.rules.specs.Copy.{lastLive}
-use Rattle.rules.proofs.laws.Pools.{Pooled}
+use Rattle.rules.specs.Tables.{most_slots, cell, Side, field_of}
+use Rattle.rules.specs.Copy.{last_live}
+use Rattle.rules.proofs.Laws.Pools.{Pooled}
 
 abbrev pub side_of : Pool → (table : List ℕ) → (width used link : ℕ) → Side
 side_of pool table width used link = record { pool = pool; table = table; width = width; used = used; link = link }
@@ -30,8 +30,8 @@ pub record Clonable (capacity : ℕ) (to : List ℕ) (t : Side) (last : ℕ) : T
   pub inside : t.pool.extent * t.width ≤ length t.table
   pub reads : t.used < t.width
   pub links : t.link < t.width
-  pub narrow : t.width ≤ mostSlots
-  pub is : last ≡ lastLive t
+  pub narrow : t.width ≤ most_slots
+  pub is : last ≡ last_live t
   pub room : last ≤ capacity
-  pub small : capacity ≤ mostSlots
+  pub small : capacity ≤ most_slots
   pub long : length to ≡ capacity * t.width

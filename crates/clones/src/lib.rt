@@ -2,11 +2,11 @@
 // Ported from clone_from_with of surject_arena.rs (triple_arena 0.15.1, NOTICE).
 ghost use Rattle.std.specs.Prelude.{◌≡◌, true, false, ℕ, ◌≤◌, ◌<◌};
 ghost use Rattle.rules.specs.declared.Done.TheVariants as done;
-ghost use Rattle.rules.specs.Tables.{mostSlots, state_of};
+ghost use Rattle.rules.specs.Tables.{most_slots, state_of};
 ghost use Rattle.rules.specs.Refusals.{shaped};
 ghost use Rattle.rules.specs.Calls.{Ready};
-ghost use Rattle.rules.specs.TwoTables.{afterTarget};
-ghost use Rattle.rules.specs.Copy.{lastLive, copiedTable, copiedPool, cloneStep};
+ghost use Rattle.rules.specs.TwoTables.{after_target};
+ghost use Rattle.rules.specs.Copy.{last_live, copied_table, copied_pool, clone_step};
 ghost use Rattle.slots.specs.Asked.{Within};
 ghost use Rattle.clones.specs.Clones.{side_of, Scannable, Rowed, CloneOne, Clonable};
 
@@ -19,7 +19,7 @@ use slots::{get, put};
 // The last live slot; 0 if there is none.
 pub fn last(pool: Pool, t: &[u64], width: u64, used: u64) -> u64
     requires { Scannable pool width t.now used }
-    ensures { (link : ℕ) → result ≡ lastLive (side_of pool t.now width used link) }
+    ensures { (link : ℕ) → result ≡ last_live (side_of pool t.now width used link) }
 {
     let mut slot = pool.extent;
     while 0 < slot {
@@ -55,7 +55,7 @@ fn copy_slot(
     slot: u64,
     root: u64,
 ) -> u64
-    requires { Within width to.old slot × Within width from.now slot × (used < width) × (link < width) × (slot ≤ mostSlots) × (width ≤ mostSlots) }
+    requires { Within width to.old slot × Within width from.now slot × (used < width) × (link < width) × (slot ≤ most_slots) × (width ≤ most_slots) }
     ensures { CloneOne width to.old from.now used link slot root to.new result }
 {
     let live = get(from, width, used, slot);
@@ -80,7 +80,7 @@ pub fn copy_table(
     last: u64,
 ) -> Pool
     requires { Clonable capacity to.old (side_of pool from.now width used link) last }
-    ensures { (result ≡ copiedPool capacity (side_of pool from.now width used link)) × (to.new ≡ copiedTable capacity (side_of pool from.now width used link)) }
+    ensures { (result ≡ copied_pool capacity (side_of pool from.now width used link)) × (to.new ≡ copied_table capacity (side_of pool from.now width used link)) }
 {
     let mut slot = last;
     let mut root: u64 = 0;
@@ -118,7 +118,7 @@ pub fn clone_from(
     headers: &[u64],
 ) -> HeadDone
     requires { (shaped (state_of head elems.old shared.old) ≡ true) × Ready (state_of source frames.now headers.now) }
-    ensures { afterTarget result elems.new shared.new (state_of source frames.now headers.now) ≡ cloneStep (state_of head elems.old shared.old) (state_of source frames.now headers.now) }
+    ensures { after_target result elems.new shared.new (state_of source frames.now headers.now) ≡ clone_step (state_of head elems.old shared.old) (state_of source frames.now headers.now) }
 {
     let room = head.elems.capacity;
     let pool = source.elems;

@@ -15,11 +15,11 @@ pub record Pasting (t₀ s : List ℕ) (n : ℕ) (t : List ℕ) (i : ℕ) : Type
   pub fits : n ≤ length t₀
   pub source : n ≤ length s
 
-pub pasting-start : (t s : List ℕ) (n : ℕ) → n ≤ length t → n ≤ length s → Pasting t s n t 0
-pasting-start t s n h k = record { pasted = record { long = refl; below = λ j h. absurd (omega arith); past = λ j h. refl }; high = omega arith; fits = h; source = k }
+pub pasting_start : (t s : List ℕ) (n : ℕ) → n ≤ length t → n ≤ length s → Pasting t s n t 0
+pasting_start t s n h k = record { pasted = record { long = refl; below = λ j h. absurd (omega arith); past = λ j h. refl }; high = omega arith; fits = h; source = k }
 
-pub pasting-next : (t₀ s : List ℕ) (n : ℕ) (t : List ℕ) (i : ℕ) → Pasting t₀ s n t i → i < n → Pasting t₀ s n (set t i (get_or s i 0)) (i + 1)
-pasting-next t₀ s n t i R l = record {
+pub pasting_next : (t₀ s : List ℕ) (n : ℕ) (t : List ℕ) (i : ℕ) → Pasting t₀ s n t i → i < n → Pasting t₀ s n (set t i (get_or s i 0)) (i + 1)
+pasting_next t₀ s n t i R l = record {
   pasted = record {
     long = length-set t i (get_or s i 0) ∙ R.pasted.long;
     below = λ j h. below' j h (ℕ_discrete j i);
@@ -34,8 +34,8 @@ pasting-next t₀ s n t i R l = record {
     below' j h (yes e) = rw e (get_or-set_same t i (get_or s i 0) 0 (rw R.pasted.long (omega (arith, R.fits))))
     below' j h (no e) = get_or-set_other t i j (get_or s i 0) 0 e ∙ R.pasted.below j (omega arith)
 
-pub pasting-done : (t₀ s : List ℕ) (n : ℕ) (t : List ℕ) (i : ℕ) → Pasting t₀ s n t i → n ≤ i → Pasted t₀ s n t
-pasting-done t₀ s n t i R h = let z : i ≡ n = omega (arith, R.high) in rw z at R.pasted
+pub pasting_done : (t₀ s : List ℕ) (n : ℕ) (t : List ℕ) (i : ℕ) → Pasting t₀ s n t i → n ≤ i → Pasted t₀ s n t
+pasting_done t₀ s n t i R h = let z : i ≡ n = omega (arith, R.high) in rw z at R.pasted
 
 -- ---- the loop of `zero`, with the numbers from `a` to before `i` zeroed
 pub record Zeroing (t₀ : List ℕ) (a b : ℕ) (t : List ℕ) (i : ℕ) : Type 0 where
@@ -44,11 +44,11 @@ pub record Zeroing (t₀ : List ℕ) (a b : ℕ) (t : List ℕ) (i : ℕ) : Type
   pub high : i ≤ b
   pub fits : b ≤ length t₀
 
-pub zeroing-start : (t : List ℕ) (a b : ℕ) → a ≤ b → b ≤ length t → Zeroing t a b t a
-zeroing-start t a b l h = record { zeroed = record { long = refl; within = λ j h k. absurd (omega arith); below = λ j h. refl; past = λ j h. refl }; low = omega arith; high = l; fits = h }
+pub zeroing_start : (t : List ℕ) (a b : ℕ) → a ≤ b → b ≤ length t → Zeroing t a b t a
+zeroing_start t a b l h = record { zeroed = record { long = refl; within = λ j h k. absurd (omega arith); below = λ j h. refl; past = λ j h. refl }; low = omega arith; high = l; fits = h }
 
-pub zeroing-next : (t₀ : List ℕ) (a b : ℕ) (t : List ℕ) (i : ℕ) → Zeroing t₀ a b t i → i < b → Zeroing t₀ a b (set t i 0) (i + 1)
-zeroing-next t₀ a b t i R l = record {
+pub zeroing_next : (t₀ : List ℕ) (a b : ℕ) (t : List ℕ) (i : ℕ) → Zeroing t₀ a b t i → i < b → Zeroing t₀ a b (set t i 0) (i + 1)
+zeroing_next t₀ a b t i R l = record {
   zeroed = record {
     long = length-set t i 0 ∙ R.zeroed.long;
     within = λ j h k. within' j h k (ℕ_discrete j i);
@@ -64,5 +64,5 @@ zeroing-next t₀ a b t i R l = record {
     within' j h k (yes e) = rw e (get_or-set_same t i 0 0 (rw R.zeroed.long (omega (arith, R.fits))))
     within' j h k (no e) = get_or-set_other t i j 0 0 e ∙ R.zeroed.within j h (omega arith)
 
-pub zeroing-done : (t₀ : List ℕ) (a b : ℕ) (t : List ℕ) (i : ℕ) → Zeroing t₀ a b t i → b ≤ i → Zeroed t₀ a b t
-zeroing-done t₀ a b t i R h = let z : i ≡ b = omega (arith, R.high) in rw z at R.zeroed
+pub zeroing_done : (t₀ : List ℕ) (a b : ℕ) (t : List ℕ) (i : ℕ) → Zeroing t₀ a b t i → b ≤ i → Zeroed t₀ a b t
+zeroing_done t₀ a b t i R h = let z : i ≡ b = omega (arith, R.high) in rw z at R.zeroed

@@ -1,7 +1,7 @@
 // Parts of tables copied and zeroed, for compression: a ring to rows of the scratch, the first numbers of a slice, zeros over a part of one.
 ghost use Rattle.std.specs.Prelude.{◌≡◌, ◌+◌, ◌≤◌, ◌<◌, length};
-ghost use Rattle.rules.specs.Tables.{mostSlots};
-ghost use Rattle.rules.specs.ReadFile.{beforeIn, afterIn};
+ghost use Rattle.rules.specs.Tables.{most_slots};
+ghost use Rattle.rules.specs.ReadFile.{before_in, after_in};
 ghost use Rattle.copies.specs.Parts.{Copiable, Copied, Pasted, Zeroed};
 
 use rules::{CLASS, FRAME, GENERATION, NEXT, PAYLOAD, SIZE};
@@ -9,8 +9,8 @@ use slots::{get, put, write_frame};
 
 // In a block of `n` slots past `a`: the slot before its `i + 1`-th, and the slot after it.
 pub fn before(a: u64, n: u64, i: u64) -> u64
-    requires { (a + n ≤ mostSlots) × (i < n) }
-    ensures { result ≡ beforeIn a n i }
+    requires { (a + n ≤ most_slots) × (i < n) }
+    ensures { result ≡ before_in a n i }
 {
     if i == 0 {
         return a + n;
@@ -19,8 +19,8 @@ pub fn before(a: u64, n: u64, i: u64) -> u64
 }
 
 pub fn after(a: u64, n: u64, i: u64) -> u64
-    requires { (a + n ≤ mostSlots) × (i < n) }
-    ensures { result ≡ afterIn a n i }
+    requires { (a + n ≤ most_slots) × (i < n) }
+    ensures { result ≡ after_in a n i }
 {
     if i + 1 == n {
         return a + 1;

@@ -1,15 +1,15 @@
 // Reads, sets and the exchange at the host's door: the gate, then the call at the inner door. Nothing is required of the caller.
 ghost use Rattle.std.specs.Prelude.{false, []};
 ghost use Rattle.rules.specs.Tables.{state_of};
-ghost use Rattle.rules.specs.Answers.{leaves, saidDone, saidNumber, saidSame, afterNumber, afterExchanged};
-ghost use Rattle.rules.specs.Calls.{AtDoor, lenSurject, inSameSurject, getElement, getShared, getSize, getTotal, lookup, setElement, setShared, exchange};
+ghost use Rattle.rules.specs.Answers.{leaves, said_done, said_number, said_same, after_number, afterExchanged};
+ghost use Rattle.rules.specs.Calls.{AtDoor, len_surject, in_same_surject, get_element, get_shared, get_size, get_total, lookup, set_element, set_shared, exchange};
 
 use gate::gate;
 use rules::{Done, Exchanged, Head, HeadExchanged, HeadNumber, Key, Number, Same};
 
 // Rules 1, reads and sets: the size of a class.
 pub fn len_surject(head: Head, elems: &[u64], shared: &[u64], key: Key) -> Number
-    ensures { AtDoor (state_of head elems.now shared.now) [] (lenSurject key) (leaves head elems.now shared.now [] (saidNumber result false)) }
+    ensures { AtDoor (state_of head elems.now shared.now) [] (len_surject key) (leaves head elems.now shared.now [] (said_number result false)) }
 {
     match gate(head, elems, shared) {
         Done::Refused(n) => Number::Refused(n),
@@ -19,7 +19,7 @@ pub fn len_surject(head: Head, elems: &[u64], shared: &[u64], key: Key) -> Numbe
 
 // Whether two keys are of one class.
 pub fn in_same_surject(head: Head, elems: &[u64], shared: &[u64], j: Key, k: Key) -> Same
-    ensures { AtDoor (state_of head elems.now shared.now) [] (inSameSurject j k) (leaves head elems.now shared.now [] (saidSame result)) }
+    ensures { AtDoor (state_of head elems.now shared.now) [] (in_same_surject j k) (leaves head elems.now shared.now [] (said_same result)) }
 {
     match gate(head, elems, shared) {
         Done::Refused(n) => Same::Refused(n),
@@ -29,7 +29,7 @@ pub fn in_same_surject(head: Head, elems: &[u64], shared: &[u64], j: Key, k: Key
 
 // The payload.
 pub fn get(head: Head, elems: &[u64], shared: &[u64], key: Key) -> Number
-    ensures { AtDoor (state_of head elems.now shared.now) [] (getElement key) (leaves head elems.now shared.now [] (saidNumber result false)) }
+    ensures { AtDoor (state_of head elems.now shared.now) [] (get_element key) (leaves head elems.now shared.now [] (said_number result false)) }
 {
     match gate(head, elems, shared) {
         Done::Refused(n) => Number::Refused(n),
@@ -39,7 +39,7 @@ pub fn get(head: Head, elems: &[u64], shared: &[u64], key: Key) -> Number
 
 // The class's value.
 pub fn get_shared(head: Head, elems: &[u64], shared: &[u64], key: Key) -> Number
-    ensures { AtDoor (state_of head elems.now shared.now) [] (getShared key) (leaves head elems.now shared.now [] (saidNumber result false)) }
+    ensures { AtDoor (state_of head elems.now shared.now) [] (get_shared key) (leaves head elems.now shared.now [] (said_number result false)) }
 {
     match gate(head, elems, shared) {
         Done::Refused(n) => Number::Refused(n),
@@ -49,7 +49,7 @@ pub fn get_shared(head: Head, elems: &[u64], shared: &[u64], key: Key) -> Number
 
 // Ticket 6: the frame's size.
 pub fn get_size(head: Head, elems: &[u64], shared: &[u64], key: Key) -> Number
-    ensures { AtDoor (state_of head elems.now shared.now) [] (getSize key) (leaves head elems.now shared.now [] (saidNumber result false)) }
+    ensures { AtDoor (state_of head elems.now shared.now) [] (get_size key) (leaves head elems.now shared.now [] (said_number result false)) }
 {
     match gate(head, elems, shared) {
         Done::Refused(n) => Number::Refused(n),
@@ -59,7 +59,7 @@ pub fn get_size(head: Head, elems: &[u64], shared: &[u64], key: Key) -> Number
 
 // Ticket 6: the total of its run.
 pub fn get_total(head: Head, elems: &[u64], shared: &[u64], key: Key) -> Number
-    ensures { AtDoor (state_of head elems.now shared.now) [] (getTotal key) (leaves head elems.now shared.now [] (saidNumber result false)) }
+    ensures { AtDoor (state_of head elems.now shared.now) [] (get_total key) (leaves head elems.now shared.now [] (said_number result false)) }
 {
     match gate(head, elems, shared) {
         Done::Refused(n) => Number::Refused(n),
@@ -69,7 +69,7 @@ pub fn get_total(head: Head, elems: &[u64], shared: &[u64], key: Key) -> Number
 
 // Ticket 5: whether the key is live, and why not.
 pub fn lookup(head: Head, elems: &[u64], shared: &[u64], key: Key) -> Done
-    ensures { AtDoor (state_of head elems.now shared.now) [] (lookup key) (leaves head elems.now shared.now [] (saidDone result false)) }
+    ensures { AtDoor (state_of head elems.now shared.now) [] (lookup key) (leaves head elems.now shared.now [] (said_done result false)) }
 {
     match gate(head, elems, shared) {
         Done::Refused(n) => Done::Refused(n),
@@ -79,7 +79,7 @@ pub fn lookup(head: Head, elems: &[u64], shared: &[u64], key: Key) -> Done
 
 // A new payload; the answer is the old one.
 pub fn set(head: Head, elems: &mut [u64], shared: &[u64], key: Key, payload: u64) -> HeadNumber
-    ensures { AtDoor (state_of head elems.old shared.now) [] (setElement key payload) (afterNumber result elems.new shared.now []) }
+    ensures { AtDoor (state_of head elems.old shared.now) [] (set_element key payload) (after_number result elems.new shared.now []) }
 {
     match gate(head, elems, shared) {
         Done::Refused(n) => HeadNumber {
@@ -93,7 +93,7 @@ pub fn set(head: Head, elems: &mut [u64], shared: &[u64], key: Key, payload: u64
 
 // A new value of the class; the answer is the old one.
 pub fn set_shared(head: Head, elems: &[u64], shared: &mut [u64], key: Key, value: u64) -> HeadNumber
-    ensures { AtDoor (state_of head elems.now shared.old) [] (setShared key value) (afterNumber result elems.now shared.new []) }
+    ensures { AtDoor (state_of head elems.now shared.old) [] (set_shared key value) (after_number result elems.now shared.new []) }
 {
     match gate(head, elems, shared) {
         Done::Refused(n) => HeadNumber {

@@ -1,15 +1,15 @@
 // Whole runs at the host's door: the gate, then the call at the inner door. Nothing is required of the caller.
 ghost use Rattle.std.specs.Prelude.{false, []};
 ghost use Rattle.rules.specs.Tables.{state_of};
-ghost use Rattle.rules.specs.Answers.{leaves, saidNumber, afterSeal, afterNumber};
-ghost use Rattle.rules.specs.Calls.{AtDoor, removeShared, list, drain, seal, drainAll};
+ghost use Rattle.rules.specs.Answers.{leaves, said_number, afterSeal, after_number};
+ghost use Rattle.rules.specs.Calls.{AtDoor, remove_shared, list, drain, seal, drain_all};
 
 use gate::gate;
 use rules::{Done, Head, HeadNumber, HeadSeal, Key, Number, Seal};
 
 // Rules 9: list.
 pub fn list(head: Head, elems: &[u64], shared: &[u64], key: Key, out: &mut [u64]) -> Number
-    ensures { AtDoor (state_of head elems.now shared.now) out.old (list key) (leaves head elems.now shared.now out.new (saidNumber result false)) }
+    ensures { AtDoor (state_of head elems.now shared.now) out.old (list key) (leaves head elems.now shared.now out.new (said_number result false)) }
 {
     match gate(head, elems, shared) {
         Done::Refused(n) => Number::Refused(n),
@@ -19,7 +19,7 @@ pub fn list(head: Head, elems: &[u64], shared: &[u64], key: Key, out: &mut [u64]
 
 // Rules 8: remove shared.
 pub fn remove_shared(head: Head, elems: &mut [u64], shared: &mut [u64], key: Key) -> HeadNumber
-    ensures { AtDoor (state_of head elems.old shared.old) [] (removeShared key) (afterNumber result elems.new shared.new []) }
+    ensures { AtDoor (state_of head elems.old shared.old) [] (remove_shared key) (after_number result elems.new shared.new []) }
 {
     match gate(head, elems, shared) {
         Done::Refused(n) => HeadNumber {
@@ -39,7 +39,7 @@ pub fn drain(
     key: Key,
     out: &mut [u64],
 ) -> HeadNumber
-    ensures { AtDoor (state_of head elems.old shared.old) out.old (drain key) (afterNumber result elems.new shared.new out.new) }
+    ensures { AtDoor (state_of head elems.old shared.old) out.old (drain key) (after_number result elems.new shared.new out.new) }
 {
     match gate(head, elems, shared) {
         Done::Refused(n) => HeadNumber {
@@ -66,7 +66,7 @@ pub fn seal(head: Head, elems: &[u64], shared: &mut [u64], key: Key, out: &mut [
 
 // Rules 11: drain all.
 pub fn drain_all(head: Head, elems: &mut [u64], shared: &mut [u64], out: &mut [u64]) -> HeadNumber
-    ensures { AtDoor (state_of head elems.old shared.old) out.old drainAll (afterNumber result elems.new shared.new out.new) }
+    ensures { AtDoor (state_of head elems.old shared.old) out.old drain_all (after_number result elems.new shared.new out.new) }
 {
     match gate(head, elems, shared) {
         Done::Refused(n) => HeadNumber {

@@ -1,8 +1,8 @@
 // New run, insert, union, its undo, and remove at the host's door: the gate, then the call at the inner door. Nothing is required of the caller.
 ghost use Rattle.std.specs.Prelude.{false, []};
 ghost use Rattle.rules.specs.Tables.{state_of};
-ghost use Rattle.rules.specs.Answers.{afterDone, afterInserted, afterJoined, afterRemoved};
-ghost use Rattle.rules.specs.Calls.{AtDoor, newRun, insert, union, undo, remove};
+ghost use Rattle.rules.specs.Answers.{after_done, after_inserted, after_joined, after_removed};
+ghost use Rattle.rules.specs.Calls.{AtDoor, new_run, insert, union, undo, remove};
 
 use gate::gate;
 use rules::{
@@ -18,7 +18,7 @@ pub fn insert_surject(
     value: u64,
     size: u32,
 ) -> HeadInserted
-    ensures { AtDoor (state_of head elems.old shared.old) [] (newRun payload value size) (afterInserted result elems.new shared.new []) }
+    ensures { AtDoor (state_of head elems.old shared.old) [] (new_run payload value size) (after_inserted result elems.new shared.new []) }
 {
     match gate(head, elems, shared) {
         Done::Refused(n) => HeadInserted {
@@ -38,7 +38,7 @@ pub fn insert(
     payload: u64,
     size: u32,
 ) -> HeadInserted
-    ensures { AtDoor (state_of head elems.old shared.old) [] (insert at payload size) (afterInserted result elems.new shared.new []) }
+    ensures { AtDoor (state_of head elems.old shared.old) [] (insert at payload size) (after_inserted result elems.new shared.new []) }
 {
     match gate(head, elems, shared) {
         Done::Refused(n) => HeadInserted {
@@ -51,7 +51,7 @@ pub fn insert(
 
 // Rules 6: union.
 pub fn union(head: Head, elems: &mut [u64], shared: &mut [u64], j: Key, k: Key) -> HeadJoined
-    ensures { AtDoor (state_of head elems.old shared.old) [] (union j k) (afterJoined result elems.new shared.new []) }
+    ensures { AtDoor (state_of head elems.old shared.old) [] (union j k) (after_joined result elems.new shared.new []) }
 {
     match gate(head, elems, shared) {
         Done::Refused(n) => HeadJoined {
@@ -64,7 +64,7 @@ pub fn union(head: Head, elems: &mut [u64], shared: &mut [u64], j: Key, k: Key) 
 
 // Ticket 7: the last union is taken back.
 pub fn undo(head: Head, elems: &mut [u64], shared: &mut [u64]) -> HeadDone
-    ensures { AtDoor (state_of head elems.old shared.old) [] undo (afterDone result elems.new shared.new []) }
+    ensures { AtDoor (state_of head elems.old shared.old) [] undo (after_done result elems.new shared.new []) }
 {
     match gate(head, elems, shared) {
         Done::Refused(n) => {
@@ -78,7 +78,7 @@ pub fn undo(head: Head, elems: &mut [u64], shared: &mut [u64]) -> HeadDone
 
 // Rules 7: remove.
 pub fn remove_element(head: Head, elems: &mut [u64], shared: &mut [u64], key: Key) -> HeadRemoved
-    ensures { AtDoor (state_of head elems.old shared.old) [] (remove key) (afterRemoved result elems.new shared.new []) }
+    ensures { AtDoor (state_of head elems.old shared.old) [] (remove key) (after_removed result elems.new shared.new []) }
 {
     match gate(head, elems, shared) {
         Done::Refused(n) => HeadRemoved {

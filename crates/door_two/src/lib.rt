@@ -4,7 +4,7 @@ ghost use Rattle.rules.specs.Tables.{state_of};
 ghost use Rattle.rules.specs.Refusals.{shaped};
 ghost use Rattle.rules.specs.Undo.{Whole};
 ghost use Rattle.rules.specs.Calls.{Is};
-ghost use Rattle.rules.specs.TwoTables.{afterTarget, after_both};
+ghost use Rattle.rules.specs.TwoTables.{after_target, after_both};
 ghost use Rattle.rules.specs.Copy.{AtCopy};
 ghost use Rattle.rules.specs.Move.{AtMove};
 
@@ -32,7 +32,7 @@ pub fn clone_from(
     frames: &[u64],
     headers: &[u64],
 ) -> HeadDone
-    ensures { AtCopy (state_of head elems.old shared.old) (state_of source frames.now headers.now) (afterTarget result elems.new shared.new (state_of source frames.now headers.now)) }
+    ensures { AtCopy (state_of head elems.old shared.old) (state_of source frames.now headers.now) (after_target result elems.new shared.new (state_of source frames.now headers.now)) }
 {
     if !shape::is_shaped(source, frames, headers) {
         return refused(head, Refusal::Shape);

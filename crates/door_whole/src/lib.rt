@@ -1,8 +1,8 @@
 // Whole tables at the host's door: the gate, then the call at the inner door. Nothing is required of the caller.
 ghost use Rattle.std.specs.Prelude.{◌≡◌, false, []};
 ghost use Rattle.rules.specs.Tables.{state_of};
-ghost use Rattle.rules.specs.Answers.{afterDone, afterNumber};
-ghost use Rattle.rules.specs.Calls.{AtDoor, freshStep, clear, compress, compressWith};
+ghost use Rattle.rules.specs.Answers.{after_done, after_number};
+ghost use Rattle.rules.specs.Calls.{AtDoor, fresh_step, clear, compress, compress_with};
 
 use gate::gate;
 use rules::{Done, Head, HeadDone, HeadNumber, Number};
@@ -15,14 +15,14 @@ pub fn fresh(
     elems: &mut [u64],
     shared: &mut [u64],
 ) -> HeadDone
-    ensures { afterDone result elems.new shared.new [] ≡ freshStep (state_of head elems.old shared.old) frames headers }
+    ensures { after_done result elems.new shared.new [] ≡ fresh_step (state_of head elems.old shared.old) frames headers }
 {
     wipes::fresh(head, frames, headers, elems, shared)
 }
 
 // Rules 12: clear.
 pub fn clear(head: Head, elems: &mut [u64], shared: &mut [u64]) -> HeadDone
-    ensures { AtDoor (state_of head elems.old shared.old) [] clear (afterDone result elems.new shared.new []) }
+    ensures { AtDoor (state_of head elems.old shared.old) [] clear (after_done result elems.new shared.new []) }
 {
     match gate(head, elems, shared) {
         Done::Refused(n) => HeadDone {
@@ -42,7 +42,7 @@ pub fn compress_canonical(
     scratch: &mut [u64],
     reset: bool,
 ) -> HeadDone
-    ensures { AtDoor (state_of head elems.old shared.old) scratch.old (compress reset) (afterDone result elems.new shared.new scratch.new) }
+    ensures { AtDoor (state_of head elems.old shared.old) scratch.old (compress reset) (after_done result elems.new shared.new scratch.new) }
 {
     match gate(head, elems, shared) {
         Done::Refused(n) => HeadDone {
@@ -62,7 +62,7 @@ pub fn compress_with(
     pairs: &mut [u64],
     reset: bool,
 ) -> HeadNumber
-    ensures { AtDoor (state_of head elems.old shared.old) pairs.old (compressWith reset) (afterNumber result elems.new shared.new pairs.new) }
+    ensures { AtDoor (state_of head elems.old shared.old) pairs.old (compress_with reset) (after_number result elems.new shared.new pairs.new) }
 {
     match gate(head, elems, shared) {
         Done::Refused(n) => HeadNumber {

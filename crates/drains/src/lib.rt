@@ -3,25 +3,25 @@
 ghost use Rattle.std.specs.Prelude.{◌≡◌, [], ◌∷◌, ◌++◌};
 ghost use Rattle.rules.specs.Notation.{if◌then◌else◌};
 ghost use Rattle.rules.specs.Tables.{row, state_of};
-ghost use Rattle.rules.specs.Drains.{recordWidth, restFields};
+ghost use Rattle.rules.specs.Drains.{record_width, rest_fields};
 ghost use Rattle.rules.specs.Calls as calls;
 ghost use Rattle.rules.specs.Calls.{Ready, step};
-ghost use Rattle.rules.specs.Answers.{afterNumber};
+ghost use Rattle.rules.specs.Answers.{after_number};
 ghost use Rattle.slots.specs.Asked.{Within};
 ghost use Rattle.slots.specs.Asked.{OnLive};
 ghost use Rattle.drains.specs.Asked.{Drains};
-ghost use Rattle.drains.specs.Answered.{lastMark, lastValue, Gone, Drained};
+ghost use Rattle.drains.specs.Answered.{last_mark, last_value, Gone, Drained};
 
 use removes::remove_at;
 use rings::lists::size_at;
 use rules::{FRAME, Found, GENERATION, Head, HeadNumber, Key, NEXT, Number, Refusal, Rest};
 
-// Numbers to a record (docs/LAYOUT.md); in the rules, recordWidth.
+// Numbers to a record (docs/LAYOUT.md); in the rules, record_width.
 pub const RECORD_WIDTH: u64 = 6;
 
 // What a record says of the run: 1 with the last frame, and the shared value then.
 fn last_mark(rest: Rest) -> u64
-    ensures { result ≡ lastMark rest }
+    ensures { result ≡ last_mark rest }
 {
     match rest {
         Rest::GoesOn => 0,
@@ -30,7 +30,7 @@ fn last_mark(rest: Rest) -> u64
 }
 
 fn last_value(rest: Rest) -> u64
-    ensures { result ≡ lastValue rest }
+    ensures { result ≡ last_value rest }
 {
     match rest {
         Rest::GoesOn => 0,
@@ -55,8 +55,8 @@ fn write_record(
     rest: Rest,
     over: bool,
 )
-    requires { Within recordWidth out.old place }
-    ensures { out.new ≡ row recordWidth out.old place (slot ∷ generation ∷ payload ∷ restFields rest ++ (if over then 1 else 0) ∷ []) }
+    requires { Within record_width out.old place }
+    ensures { out.new ≡ row record_width out.old place (slot ∷ generation ∷ payload ∷ rest_fields rest ++ (if over then 1 else 0) ∷ []) }
 {
     slots::put(out, RECORD_WIDTH, place, 0, slot);
     slots::put(out, RECORD_WIDTH, place, 1, generation);
@@ -75,7 +75,7 @@ fn drain_frame(
     out: &mut [u64],
     place: u64,
 ) -> Head
-    requires { OnLive (state_of head elems.old shared.old) x × Within recordWidth out.old place }
+    requires { OnLive (state_of head elems.old shared.old) x × Within record_width out.old place }
     ensures { Gone (state_of head elems.old shared.old) x out.old place result elems.new shared.new out.new }
 {
     let generation = slots::get(elems, FRAME, GENERATION, x);
@@ -122,7 +122,7 @@ pub fn drain(
     out: &mut [u64],
 ) -> HeadNumber
     requires { Ready (state_of head elems.old shared.old) }
-    ensures { afterNumber result elems.new shared.new out.new ≡ step (state_of head elems.old shared.old) out.old (calls.drain key) }
+    ensures { after_number result elems.new shared.new out.new ≡ step (state_of head elems.old shared.old) out.old (calls.drain key) }
 {
     let x = match slots::find(head, elems, key) {
         Found::Live(x) => x,

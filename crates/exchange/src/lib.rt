@@ -2,12 +2,12 @@
 // Ported from get_disjoint_shared_mut of surject_arena.rs, at four keys (triple_arena 0.15.1, NOTICE).
 ghost use Rattle.std.specs.Prelude.{◌≡◌, [], ◌∷◌};
 ghost use Rattle.rules.specs.Tables.{state_of, value_of};
-ghost use Rattle.rules.specs.Exchange.{allDiffer, valued};
+ghost use Rattle.rules.specs.Exchange.{all_differ, valued};
 ghost use Rattle.rules.specs.Calls.{Ready, step, exchange};
-ghost use Rattle.rules.specs.Answers.{saidExchanged, afterExchanged};
-ghost use Rattle.rules.specs.Refusals.{saidRefused, outcome};
+ghost use Rattle.rules.specs.Answers.{said_exchanged, afterExchanged};
+ghost use Rattle.rules.specs.Refusals.{said_refused, outcome};
 ghost use Rattle.exchange.specs.Asked.{FourHeaders, FourClassed};
-ghost use Rattle.exchange.specs.Answered.{exchangeAt};
+ghost use Rattle.exchange.specs.Answered.{exchange_at};
 
 use rules::{
     CLASS, Done, Exchanged, FRAME, Found, HEADER, Head, HeadExchanged, Key, Refusal, VALUE,
@@ -15,7 +15,7 @@ use rules::{
 
 // A refused exchange leaves the head, and has zeros for the old values.
 fn refused(head: Head, refusal: Refusal) -> HeadExchanged
-    ensures { (result.head ≡ head) × (saidExchanged result.answer ≡ saidRefused refusal) }
+    ensures { (result.head ≡ head) × (said_exchanged result.answer ≡ said_refused refusal) }
 {
     let answer = Exchanged {
         answer: Done::Refused(refusal),
@@ -26,7 +26,7 @@ fn refused(head: Head, refusal: Refusal) -> HeadExchanged
 
 // Refusals 4: no two of the classes are one.
 fn all_differ(a: u64, b: u64, c: u64, d: u64) -> bool
-    ensures { allDiffer (a ∷ b ∷ c ∷ d ∷ []) ≡ result }
+    ensures { all_differ (a ∷ b ∷ c ∷ d ∷ []) ≡ result }
 {
     if a == b {
         return false;
@@ -77,7 +77,7 @@ fn exchange_at(
     values: [u64; 4],
 ) -> HeadExchanged
     requires { FourClassed elems.now shared.old w x y z }
-    ensures { afterExchanged result elems.now shared.new [] ≡ outcome (state_of head elems.now shared.old) [] (exchangeAt (state_of head elems.now shared.old) (w ∷ x ∷ y ∷ z ∷ []) values) }
+    ensures { afterExchanged result elems.now shared.new [] ≡ outcome (state_of head elems.now shared.old) [] (exchange_at (state_of head elems.now shared.old) (w ∷ x ∷ y ∷ z ∷ []) values) }
 {
     let a = slots::get(elems, FRAME, CLASS, w);
     let b = slots::get(elems, FRAME, CLASS, x);

@@ -1,12 +1,12 @@
 // The reader's first pass (Ticket 11): does a file keep the layout of its version, and how many runs and frames does it hold. Nothing is written.
 ghost use Rattle.std.specs.Prelude.{◌≡◌, ◌+◌, ◌*◌, ◌≤◌, ◌<◌, length, drop};
-ghost use Rattle.rules.specs.RunFile.{total, frameLength, body, parse};
-ghost use Rattle.rules.proofs.laws.Fixed.{framesHere, entryHere};
-ghost use Rattle.file_checks.specs.Said.{saidBody, saidRun, saidParsed};
+ghost use Rattle.rules.specs.RunFile.{total, frame_length, body, parse};
+ghost use Rattle.rules.proofs.Laws.Fixed.{frames_here, entry_here};
+ghost use Rattle.file_checks.specs.Said.{said_body, said_run, said_parsed};
 
 use littles::{get4, get8};
 
-// Bytes to a frame; in the rules, frameLength.
+// Bytes to a frame; in the rules, frame_length.
 const FRAME_LENGTH: usize = 12;
 
 // A body that was read: the place after it, and its number of frames.
@@ -25,8 +25,8 @@ pub enum Checked {
 
 // The sum of the sizes of `n` frames from a place on.
 fn sizes(b: &[u8], at: usize, n: usize) -> u64
-    requires { (at + n * frameLength 1 ≤ length b.now) × (n < 4294967296) }
-    ensures { result ≡ total (framesHere 1 n (drop at b.now)) }
+    requires { (at + n * frame_length 1 ≤ length b.now) × (n < 4294967296) }
+    ensures { result ≡ total (frames_here 1 n (drop at b.now)) }
 {
     let mut sum: u64 = 0;
     let mut left = n;
@@ -42,7 +42,7 @@ fn sizes(b: &[u8], at: usize, n: usize) -> u64
 // A body at a place: its fields, its frames, and their sizes summed.
 fn check_body(b: &[u8], at: usize) -> Next
     requires { at ≤ length b.now }
-    ensures { result ≡ saidBody 1 at (body 1 (drop at b.now)) }
+    ensures { result ≡ said_body 1 at (body 1 (drop at b.now)) }
 {
     let room = b.len() - at;
     if room < 20 {
@@ -68,7 +68,7 @@ fn check_body(b: &[u8], at: usize) -> Next
 // A body at a place, which its entry in the contents must give, and its length.
 fn check_run(b: &[u8], entry: usize, at: usize) -> Next
     requires { (at ≤ length b.now) × (entry + 8 ≤ length b.now) }
-    ensures { result ≡ saidRun 1 at (entryHere (drop entry b.now)) (body 1 (drop at b.now)) }
+    ensures { result ≡ said_run 1 at (entry_here (drop entry b.now)) (body 1 (drop at b.now)) }
 {
     let Next::At(next, frames) = check_body(b, at) else {
         return Next::Departs;
@@ -88,7 +88,7 @@ fn check_run(b: &[u8], entry: usize, at: usize) -> Next
 // The whole file: what the rules read in it, from the version on.
 pub fn check_runs(b: &[u8]) -> Checked
     requires { 8 ≤ length b.now }
-    ensures { result ≡ saidParsed (parse 1 b.now) }
+    ensures { result ≡ said_parsed (parse 1 b.now) }
 {
     let count = get4(b, 4);
     let n = count as usize;

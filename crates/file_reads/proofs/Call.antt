@@ -16,21 +16,21 @@ use Rattle.rules.specs.declared.Refusal.{Refusal}
 use Rattle.rules.specs.declared.Done.TheVariants as done
 use Rattle.rules.specs.declared.Refusal.TheVariants.{Shape, NoElement, NoShared, NoFile, Version}
 use Rattle.rules.specs.Notation.{flat}
-use Rattle.rules.specs.Tables.{mostSlots, frameWidth, headerWidth, blank, State, state_of}
+use Rattle.rules.specs.Tables.{most_slots, frame_width, header_width, blank, State, state_of}
 use Rattle.rules.specs.Refusals.{Ruling, refuse, answer, outcome, shaped}
-use Rattle.rules.specs.Answers.{afterDone}
-use Rattle.rules.specs.Compress.{padded, packedIn}
+use Rattle.rules.specs.Answers.{after_done}
+use Rattle.rules.specs.Compress.{padded, packed_in}
 use Rattle.rules.specs.Bytes.{value}
-use Rattle.rules.specs.RunFile.{StoredRun, frameCount, Parsed, departs, holds, parse}
-use Rattle.rules.specs.ReadFile.{readHeader, readRuns, read_tables, intoRoom, readFile, oldReader, read_step, heldIn}
-use Rattle.rules.proofs.laws.Places.{padded-long, padded-past, rows_long}
-use Rattle.rules.proofs.laws.ReadCells.{runs-long}
-use Rattle.rules.proofs.laws.Soundness.{Shaped, shaped_of}
+use Rattle.rules.specs.RunFile.{StoredRun, frame_count, Parsed, departs, holds, parse}
+use Rattle.rules.specs.ReadFile.{read_header, read_runs, read_tables, into_room, read_file, old_reader, read_step, held_in}
+use Rattle.rules.proofs.Laws.Places.{padded-long, padded-past, rows_long}
+use Rattle.rules.proofs.Laws.ReadCells.{runs-long}
+use Rattle.rules.proofs.Laws.Soundness.{Shaped, shaped_of}
 use Rattle.copies.specs.Parts.{Zeroed}
 use Rattle.file_checks.specs.declared.Checked.TheVariants as checked
-use Rattle.file_checks.specs.Said.{saidParsed}
+use Rattle.file_checks.specs.Said.{said_parsed}
 use Rattle.file_reads.specs.Fills.{held, Fillable, Buildable}
-use Rattle.file_reads.proofs.Standing.{parse-stands}
+use Rattle.file_reads.proofs.Standing.{parse_stands}
 
 -- `n` rows stored at the start of a table of `m`, and zeros past them
 pub zeros-past : (w n m : ℕ) (t rows t' : List ℕ) → length rows ≡ n * w → n ≤ m → length t ≡ m * w → Zeroed (sets t 0 rows) (n * w) (m * w) t' → t' ≡ padded (m * w) rows
@@ -58,121 +58,121 @@ module _ (st : State) (b : List ℕ) (runs frames : ℕ) (B : Buildable st b run
   H = shaped_of st B.shape
 
   pub record Room : Type 0 where
-    pub elems : frames * frameWidth ≤ st.head.elems.capacity * frameWidth
-    pub shared : runs * headerWidth ≤ st.head.shared.capacity * headerWidth
-    pub elems-long : length st.elems ≡ st.head.elems.capacity * frameWidth
-    pub shared_long : length st.shared ≡ st.head.shared.capacity * headerWidth
-    pub elems-most : st.head.elems.capacity ≤ mostSlots
-    pub shared-most : st.head.shared.capacity ≤ mostSlots
+    pub elems : frames * frame_width ≤ st.head.elems.capacity * frame_width
+    pub shared : runs * header_width ≤ st.head.shared.capacity * header_width
+    pub elems-long : length st.elems ≡ st.head.elems.capacity * frame_width
+    pub shared_long : length st.shared ≡ st.head.shared.capacity * header_width
+    pub elems-most : st.head.elems.capacity ≤ most_slots
+    pub shared-most : st.head.shared.capacity ≤ most_slots
 
   pub room : Room
   room =
-      record { elems = mul-le-mul_right frameWidth B.elems; shared = mul-le-mul_right headerWidth B.shared; elems-long = H.elems.long; shared_long = H.shared.long; elems-most = H.elems.small; shared-most = H.shared.small }
+      record { elems = mul-le-mul_right frame_width B.elems; shared = mul-le-mul_right header_width B.shared; elems-long = H.elems.long; shared_long = H.shared.long; elems-most = H.elems.small; shared-most = H.shared.small }
 
   pub fillable : Fillable b st.elems st.shared
   fillable =
       record {
         standing = B.standing;
         contents = B.contents;
-        elems = omega (arith, B.frames-are, room.elems, room.elems-long);
-        shared = omega (arith, B.runs-are, room.shared, room.shared_long);
-        frames = omega (arith, B.frames-are, B.elems, room.elems-most);
-        runs = omega (arith, B.runs-are, B.shared, room.shared-most);
+        elems = omega (arith, B.frames_are, room.elems, room.elems-long);
+        shared = omega (arith, B.runs_are, room.shared, room.shared_long);
+        frames = omega (arith, B.frames_are, B.elems, room.elems-most);
+        runs = omega (arith, B.runs_are, B.shared, room.shared-most);
       }
 
-  pub elems-reach : (e : List ℕ) → e ≡ sets st.elems 0 (readRuns 1 0 (held b)) → st.head.elems.capacity * frameWidth ≤ length e
-  elems-reach e q = omega (arith, room.elems-long, ap length q, length-sets st.elems 0 (readRuns 1 0 rs))
+  pub elems_reach : (e : List ℕ) → e ≡ sets st.elems 0 (read_runs 1 0 (held b)) → st.head.elems.capacity * frame_width ≤ length e
+  elems_reach e q = omega (arith, room.elems-long, ap length q, length-sets st.elems 0 (read_runs 1 0 rs))
 
-  pub shared-reach : (s : List ℕ) → s ≡ sets st.shared 0 (flat (map readHeader (held b))) → st.head.shared.capacity * headerWidth ≤ length s
-  shared-reach s q = omega (arith, room.shared_long, ap length q, length-sets st.shared 0 (flat (map readHeader rs)))
+  pub shared_reach : (s : List ℕ) → s ≡ sets st.shared 0 (flat (map read_header (held b))) → st.head.shared.capacity * header_width ≤ length s
+  shared_reach s q = omega (arith, room.shared_long, ap length q, length-sets st.shared 0 (flat (map read_header rs)))
 
-  pub built : (p q : Pool) (e₁ s₁ e s : List ℕ) → p ≡ packedIn st.head.elems.capacity frames → q ≡ packedIn st.head.shared.capacity runs
-      → (e₁ ≡ sets st.elems 0 (readRuns 1 0 (held b))) × (s₁ ≡ sets st.shared 0 (flat (map readHeader (held b))))
-      → Zeroed e₁ (frames * frameWidth) (st.head.elems.capacity * frameWidth) e → Zeroed s₁ (runs * headerWidth) (st.head.shared.capacity * headerWidth) s
+  pub built : (p q : Pool) (e₁ s₁ e s : List ℕ) → p ≡ packed_in st.head.elems.capacity frames → q ≡ packed_in st.head.shared.capacity runs
+      → (e₁ ≡ sets st.elems 0 (read_runs 1 0 (held b))) × (s₁ ≡ sets st.shared 0 (flat (map read_header (held b))))
+      → Zeroed e₁ (frames * frame_width) (st.head.elems.capacity * frame_width) e → Zeroed s₁ (runs * header_width) (st.head.shared.capacity * header_width) s
       → state_of (record { elems = p; shared = q; generation = 1; undo = blank }) e s ≡ read_tables st.head.elems.capacity st.head.shared.capacity (held b)
   unfolding read_tables
   built p q e₁ s₁ e s ep eq (ee, es) E S =
-      let x : e ≡ padded (st.head.elems.capacity * frameWidth) (readRuns 1 0 rs) =
-      zeros-past frameWidth frames st.head.elems.capacity st.elems (readRuns 1 0 rs) e (runs-long 1 0 rs ∙ ap (λ (n : ℕ). n * frameWidth) (sym B.frames-are)) B.elems H.elems.long
-      (subst (λ (t : List ℕ). Zeroed t (frames * frameWidth) (st.head.elems.capacity * frameWidth) e) ee E) in
-      let y : s ≡ padded (st.head.shared.capacity * headerWidth) (flat (map readHeader rs)) =
-      zeros-past headerWidth runs st.head.shared.capacity st.shared (flat (map readHeader rs)) s (rows_long (record { value = 0; frames = [] }) headerWidth readHeader (λ r. refl) rs ∙ ap (λ (n : ℕ). n * headerWidth) (sym B.runs-are)) B.shared H.shared.long
-      (subst (λ (t : List ℕ). Zeroed t (runs * headerWidth) (st.head.shared.capacity * headerWidth) s) es S) in
-      let u : p ≡ packedIn st.head.elems.capacity (frameCount rs) = ep ∙ ap (packedIn st.head.elems.capacity) B.frames-are in
-      let v : q ≡ packedIn st.head.shared.capacity (length rs) = eq ∙ ap (packedIn st.head.shared.capacity) B.runs-are in
+      let x : e ≡ padded (st.head.elems.capacity * frame_width) (read_runs 1 0 rs) =
+      zeros-past frame_width frames st.head.elems.capacity st.elems (read_runs 1 0 rs) e (runs-long 1 0 rs ∙ ap (λ (n : ℕ). n * frame_width) (sym B.frames_are)) B.elems H.elems.long
+      (subst (λ (t : List ℕ). Zeroed t (frames * frame_width) (st.head.elems.capacity * frame_width) e) ee E) in
+      let y : s ≡ padded (st.head.shared.capacity * header_width) (flat (map read_header rs)) =
+      zeros-past header_width runs st.head.shared.capacity st.shared (flat (map read_header rs)) s (rows_long (record { value = 0; frames = [] }) header_width read_header (λ r. refl) rs ∙ ap (λ (n : ℕ). n * header_width) (sym B.runs_are)) B.shared H.shared.long
+      (subst (λ (t : List ℕ). Zeroed t (runs * header_width) (st.head.shared.capacity * header_width) s) es S) in
+      let u : p ≡ packed_in st.head.elems.capacity (frame_count rs) = ep ∙ ap (packed_in st.head.elems.capacity) B.frames_are in
+      let v : q ≡ packed_in st.head.shared.capacity (length rs) = eq ∙ ap (packed_in st.head.shared.capacity) B.runs_are in
       λ j. state_of (record { elems = u j; shared = v j; generation = 1; undo = blank }) (x j) (y j)
 
 -- ---- the call, by its ways
-abbrev pub refusedBy : Head → Refusal → HeadDone
-refusedBy head why = record { head = head; answer = done.Refused why; over = false }
+abbrev pub refused_by : Head → Refusal → HeadDone
+refused_by head why = record { head = head; answer = done.Refused why; over = false }
 
 -- what the first pass told
-pub told : (b : List ℕ) (runs frames : ℕ) → checked.Holds runs frames ≡ saidParsed (parse 1 b) → (parse 1 b ≡ holds (held b)) × (runs ≡ length (held b)) × (frames ≡ frameCount (held b))
+pub told : (b : List ℕ) (runs frames : ℕ) → checked.Holds runs frames ≡ said_parsed (parse 1 b) → (parse 1 b ≡ holds (held b)) × (runs ≡ length (held b)) × (frames ≡ frame_count (held b))
 told b runs frames e = go (parse 1 b) e
   where
-    go : (p : Parsed) → checked.Holds runs frames ≡ saidParsed p → (p ≡ holds (heldIn p)) × (runs ≡ length (heldIn p)) × (frames ≡ frameCount (heldIn p))
+    go : (p : Parsed) → checked.Holds runs frames ≡ said_parsed p → (p ≡ holds (held_in p)) × (runs ≡ length (held_in p)) × (frames ≡ frame_count (held_in p))
     go departs e = absurd (let z : ◌≡◌ {A = ℕ} 0 1 = cc in omega arith)
     go (holds rs) e = (refl, cc, cc)
 
-pub untold : (b : List ℕ) → checked.Departs ≡ saidParsed (parse 1 b) → parse 1 b ≡ departs
+pub untold : (b : List ℕ) → checked.Departs ≡ said_parsed (parse 1 b) → parse 1 b ≡ departs
 untold b e = go (parse 1 b) e
   where
-    go : (p : Parsed) → checked.Departs ≡ saidParsed p → p ≡ departs
+    go : (p : Parsed) → checked.Departs ≡ said_parsed p → p ≡ departs
     go departs e = refl
     go (holds rs) e = absurd (let z : ◌≡◌ {A = ℕ} 0 1 = cc in omega arith)
 
 module _ (st : State) (b : List ℕ) where
-  pub read-1 : shaped st ≡ false → (r : HeadDone) → r ≡ refusedBy st.head Shape → afterDone r st.elems st.shared [] ≡ read_step st b
-  unfolding readFile
-  read-1 s r q = rw (q, s)
+  pub read_1 : shaped st ≡ false → (r : HeadDone) → r ≡ refused_by st.head Shape → after_done r st.elems st.shared [] ≡ read_step st b
+  unfolding read_file
+  read_1 s r q = rw (q, s)
 
   module _ (s : shaped st ≡ true) where
-    pub read_short : length b < 8 → (r : HeadDone) → r ≡ refusedBy st.head NoFile → afterDone r st.elems st.shared [] ≡ read_step st b
-    unfolding readFile
+    pub read_short : length b < 8 → (r : HeadDone) → r ≡ refused_by st.head NoFile → after_done r st.elems st.shared [] ≡ read_step st b
+    unfolding read_file
     read_short l r q = rw (q, s, le-leb (suc (length b)) 8 l)
 
     module _ (l : 8 ≤ length b) where
-      pub read-11 : (value 4 b ≡ 1 → ⊥) → (r : HeadDone) → r ≡ refusedBy st.head Version → afterDone r st.elems st.shared [] ≡ read_step st b
-      unfolding readFile
-      read-11 f r q = rw (q, s, lt-leb (suc (length b)) 8 (omega arith), ne_eqb (value 4 b) 1 f)
+      pub read_11 : (value 4 b ≡ 1 → ⊥) → (r : HeadDone) → r ≡ refused_by st.head Version → after_done r st.elems st.shared [] ≡ read_step st b
+      unfolding read_file
+      read_11 f r q = rw (q, s, lt-leb (suc (length b)) 8 (omega arith), ne_eqb (value 4 b) 1 f)
 
       module _ (v : value 4 b ≡ 1) where
-        known : readFile oldReader st b ≡ intoRoom st.head.elems.capacity st.head.shared.capacity (parse 1 b)
-        unfolding readFile
+        known : read_file old_reader st b ≡ into_room st.head.elems.capacity st.head.shared.capacity (parse 1 b)
+        unfolding read_file
         known = rw (s, lt-leb (suc (length b)) 8 (omega arith), eq-eqb (value 4 b) 1 v, v)
 
-        pub read-9 : checked.Departs ≡ saidParsed (parse 1 b) → (r : HeadDone) → r ≡ refusedBy st.head NoFile → afterDone r st.elems st.shared [] ≡ read_step st b
-        unfolding intoRoom
-        read-9 e r q = rw (q, known, untold b e)
+        pub read_9 : checked.Departs ≡ said_parsed (parse 1 b) → (r : HeadDone) → r ≡ refused_by st.head NoFile → after_done r st.elems st.shared [] ≡ read_step st b
+        unfolding into_room
+        read_9 e r q = rw (q, known, untold b e)
 
-        module _ (runs frames : ℕ) (t : checked.Holds runs frames ≡ saidParsed (parse 1 b)) where
-          T : (parse 1 b ≡ holds (held b)) × (runs ≡ length (held b)) × (frames ≡ frameCount (held b))
+        module _ (runs frames : ℕ) (t : checked.Holds runs frames ≡ said_parsed (parse 1 b)) where
+          T : (parse 1 b ≡ holds (held b)) × (runs ≡ length (held b)) × (frames ≡ frame_count (held b))
           T = told b runs frames t
 
-          pub read-6 : st.head.shared.capacity < runs → (r : HeadDone) → r ≡ refusedBy st.head NoShared → afterDone r st.elems st.shared [] ≡ read_step st b
-          unfolding intoRoom
-          read-6 h r q =
-              let e : intoRoom st.head.elems.capacity st.head.shared.capacity (holds (held b)) ≡ refuse NoShared = rw (le-leb (suc st.head.shared.capacity) (length (held b)) (omega (arith, h, T.1))) in
-              rw q (sym (ap (outcome st []) (known ∙ ap (intoRoom st.head.elems.capacity st.head.shared.capacity) T.0 ∙ e)))
+          pub read_6 : st.head.shared.capacity < runs → (r : HeadDone) → r ≡ refused_by st.head NoShared → after_done r st.elems st.shared [] ≡ read_step st b
+          unfolding into_room
+          read_6 h r q =
+              let e : into_room st.head.elems.capacity st.head.shared.capacity (holds (held b)) ≡ refuse NoShared = rw (le-leb (suc st.head.shared.capacity) (length (held b)) (omega (arith, h, T.1))) in
+              rw q (sym (ap (outcome st []) (known ∙ ap (into_room st.head.elems.capacity st.head.shared.capacity) T.0 ∙ e)))
 
           module _ (h : runs ≤ st.head.shared.capacity) where
-            pub read-5 : st.head.elems.capacity < frames → (r : HeadDone) → r ≡ refusedBy st.head NoElement → afterDone r st.elems st.shared [] ≡ read_step st b
-            unfolding intoRoom
-            read-5 k r q =
-                let e : intoRoom st.head.elems.capacity st.head.shared.capacity (holds (held b)) ≡ refuse NoElement =
-                rw (lt-leb (suc st.head.shared.capacity) (length (held b)) (omega (arith, h, T.1)), le-leb (suc st.head.elems.capacity) (frameCount (held b)) (omega (arith, k, T.2))) in
-                rw q (sym (ap (outcome st []) (known ∙ ap (intoRoom st.head.elems.capacity st.head.shared.capacity) T.0 ∙ e)))
+            pub read_5 : st.head.elems.capacity < frames → (r : HeadDone) → r ≡ refused_by st.head NoElement → after_done r st.elems st.shared [] ≡ read_step st b
+            unfolding into_room
+            read_5 k r q =
+                let e : into_room st.head.elems.capacity st.head.shared.capacity (holds (held b)) ≡ refuse NoElement =
+                rw (lt-leb (suc st.head.shared.capacity) (length (held b)) (omega (arith, h, T.1)), le-leb (suc st.head.elems.capacity) (frame_count (held b)) (omega (arith, k, T.2))) in
+                rw q (sym (ap (outcome st []) (known ∙ ap (into_room st.head.elems.capacity st.head.shared.capacity) T.0 ∙ e)))
 
             module _ (k : frames ≤ st.head.elems.capacity) where
               pub buildable : Buildable st b runs frames
               buildable =
-                  let p = parse-stands b (held b) l T.0 in
-                  record { shape = s; standing = p.0; contents = p.1; runs-are = T.1; frames-are = T.2; shared = h; elems = k }
+                  let p = parse_stands b (held b) l T.0 in
+                  record { shape = s; standing = p.0; contents = p.1; runs_are = T.1; frames_are = T.2; shared = h; elems = k }
 
               pub read_done : (now : State) → now ≡ read_tables st.head.elems.capacity st.head.shared.capacity (held b)
-                  → afterDone (record { head = now.head; answer = done.Done; over = false }) now.elems now.shared [] ≡ read_step st b
-              unfolding intoRoom
+                  → after_done (record { head = now.head; answer = done.Done; over = false }) now.elems now.shared [] ≡ read_step st b
+              unfolding into_room
               read_done now q =
-                  let e : intoRoom st.head.elems.capacity st.head.shared.capacity (holds (held b)) ≡ answer [] (read_tables st.head.elems.capacity st.head.shared.capacity (held b)) =
-                  rw (lt-leb (suc st.head.shared.capacity) (length (held b)) (omega (arith, h, T.1)), lt-leb (suc st.head.elems.capacity) (frameCount (held b)) (omega (arith, k, T.2))) in
-                  ap (λ (x : State). outcome st [] (answer [] x)) q ∙ sym (ap (outcome st []) (known ∙ ap (intoRoom st.head.elems.capacity st.head.shared.capacity) T.0 ∙ e))
+                  let e : into_room st.head.elems.capacity st.head.shared.capacity (holds (held b)) ≡ answer [] (read_tables st.head.elems.capacity st.head.shared.capacity (held b)) =
+                  rw (lt-leb (suc st.head.shared.capacity) (length (held b)) (omega (arith, h, T.1)), lt-leb (suc st.head.elems.capacity) (frame_count (held b)) (omega (arith, k, T.2))) in
+                  ap (λ (x : State). outcome st [] (answer [] x)) q ∙ sym (ap (outcome st []) (known ∙ ap (into_room st.head.elems.capacity st.head.shared.capacity) T.0 ∙ e))

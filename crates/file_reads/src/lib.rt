@@ -2,12 +2,12 @@
 ghost use Rattle.std.specs.Prelude.{◌≡◌, [], map, ◌+◌, ◌*◌, ◌≤◌, ◌<◌, length, drop};
 ghost use Rattle.std.proofs.lemmas.List.Edits.{sets};
 ghost use Rattle.rules.specs.Notation.{flat};
-ghost use Rattle.rules.specs.Tables.{mostSlots, frameWidth, state_of};
-ghost use Rattle.rules.specs.Compress.{packedIn};
-ghost use Rattle.rules.specs.Answers.{afterDone};
-ghost use Rattle.rules.specs.RunFile.{frameLength, frameCount};
-ghost use Rattle.rules.specs.ReadFile.{readFrames, readHeader, readRuns, read_tables, read_step};
-ghost use Rattle.rules.proofs.laws.Fixed.{framesHere};
+ghost use Rattle.rules.specs.Tables.{most_slots, frame_width, state_of};
+ghost use Rattle.rules.specs.Compress.{packed_in};
+ghost use Rattle.rules.specs.Answers.{after_done};
+ghost use Rattle.rules.specs.RunFile.{frame_length, frame_count};
+ghost use Rattle.rules.specs.ReadFile.{read_frames, read_header, read_runs, read_tables, read_step};
+ghost use Rattle.rules.proofs.Laws.Fixed.{frames_here};
 ghost use Rattle.file_reads.specs.Fills.{held, Fillable, Buildable};
 
 use clones::refused;
@@ -17,15 +17,15 @@ use littles::{get4, get8};
 use rules::{BLANK, Done, FRAME, HEADER, Head, HeadDone, Pool, Refusal};
 use slots::{write_frame, write_header};
 
-// The version that is read, and the bytes to a frame; in the rules, oldReader and frameLength.
+// The version that is read, and the bytes to a frame; in the rules, old_reader and frame_length.
 const VERSION: u64 = 1;
 
 const FRAME_LENGTH: usize = 12;
 
 // The frames of a run of class `class` get the slots past `a`.
 fn fill_frames(b: &[u8], at: usize, n: u64, class: u64, a: u64, elems: &mut [u64])
-    requires { (at + n * frameLength 1 ≤ length b.now) × (a + n ≤ mostSlots) × ((a + n) * frameWidth ≤ length elems.old) }
-    ensures { elems.new ≡ sets elems.old (a * frameWidth) (readFrames class a n 0 (framesHere 1 n (drop at b.now))) }
+    requires { (at + n * frame_length 1 ≤ length b.now) × (a + n ≤ most_slots) × ((a + n) * frame_width ≤ length elems.old) }
+    ensures { elems.new ≡ sets elems.old (a * frame_width) (read_frames class a n 0 (frames_here 1 n (drop at b.now))) }
 {
     let mut i: u64 = 0;
     let mut place = at;
@@ -43,7 +43,7 @@ fn fill_frames(b: &[u8], at: usize, n: u64, class: u64, a: u64, elems: &mut [u64
 // Runs in their order: a header for each, and its frames in the slots past those of the runs before.
 fn fill_runs(b: &[u8], runs: u64, elems: &mut [u64], shared: &mut [u64])
     requires { Fillable b.now elems.old shared.old × (runs ≡ length (held b.now)) }
-    ensures { (elems.new ≡ sets elems.old 0 (readRuns 1 0 (held b.now))) × (shared.new ≡ sets shared.old 0 (flat (map readHeader (held b.now)))) }
+    ensures { (elems.new ≡ sets elems.old 0 (read_runs 1 0 (held b.now))) × (shared.new ≡ sets shared.old 0 (flat (map read_header (held b.now)))) }
 {
     let mut at = 8 + (runs as usize) * 8;
     let mut k: u64 = 0;
@@ -63,7 +63,7 @@ fn fill_runs(b: &[u8], runs: u64, elems: &mut [u64], shared: &mut [u64])
 
 // A pool whose first slots are live.
 fn packed(capacity: u64, live: u64) -> Pool
-    ensures { result ≡ packedIn capacity live }
+    ensures { result ≡ packed_in capacity live }
 {
     Pool {
         capacity,
@@ -100,7 +100,7 @@ fn build(
 
 // Ticket 11: fresh tables with the file's runs, whatever head and tables held; the head tells the capacities.
 pub fn read_file(head: Head, elems: &mut [u64], shared: &mut [u64], file: &[u8]) -> HeadDone
-    ensures { afterDone result elems.new shared.new [] ≡ read_step (state_of head elems.old shared.old) file.now }
+    ensures { after_done result elems.new shared.new [] ≡ read_step (state_of head elems.old shared.old) file.now }
 {
     if !shape::is_shaped(head, elems, shared) {
         return refused(head, Refusal::Shape);

@@ -6,30 +6,30 @@ use native.Mathlib.Omega.{arith}
 use lib.ListN.{length}
 use lib.Seq.{sets, length-sets}
 use Rattle.rules.specs.Notation.{along, flat}
-use Rattle.rules.specs.Tables.{frameWidth, payloadOf, next_of, bytes_of}
+use Rattle.rules.specs.Tables.{frame_width, payload_of, next_of, bytes_of}
 use Rattle.rules.specs.Bytes.{little}
-use Rattle.rules.specs.RunFile.{frameLength, frameBytes}
-use Rattle.rules.proofs.laws.Numbers.{length-little}
-use Rattle.rules.proofs.laws.FileLength.{length-frame}
+use Rattle.rules.specs.RunFile.{frame_length, frame_bytes}
+use Rattle.rules.proofs.Laws.Numbers.{length-little}
+use Rattle.rules.proofs.Laws.FileLength.{length-frame}
 use Rattle.slots.specs.Asked.{Within, Along}
-use Rattle.littles.proofs.Cells.{sets-append}
-use Rattle.file_writes.specs.Writes.{storedAs, framesAlong}
+use Rattle.littles.proofs.Cells.{sets_append}
+use Rattle.file_writes.specs.Writes.{stored_as, frames_along}
 
 -- a store after a store, the place being known
 pub sets_then : (l l₁ l₂ : List ℕ) (at k : ℕ) (a b : List ℕ) → length a ≡ k → l₁ ≡ sets l at a → l₂ ≡ sets l₁ (at + k) b → l₂ ≡ sets l at (a ++ b)
 sets_then l l₁ l₂ at k a b n p q =
-    q ∙ ap (λ (x : List ℕ). sets x (at + k) b) p ∙ ap (λ (x : ℕ). sets (sets l at a) (at + x) b) (sym n) ∙ sets-append l at a b
+    q ∙ ap (λ (x : List ℕ). sets x (at + k) b) p ∙ ap (λ (x : ℕ). sets (sets l at a) (at + x) b) (sym n) ∙ sets_append l at a b
 
-pub frame-stored : (l l₁ l₂ : List ℕ) (at p s : ℕ) → l₁ ≡ sets l at (little 8 p) → l₂ ≡ sets l₁ (at + 8) (little 4 s) → l₂ ≡ sets l at (storedAs p s)
-unfolding frameBytes
-frame-stored l l₁ l₂ at p s one two = sets_then l l₁ l₂ at 8 (little 8 p) (little 4 s) (length-little 8 p) one two
+pub frame_stored : (l l₁ l₂ : List ℕ) (at p s : ℕ) → l₁ ≡ sets l at (little 8 p) → l₂ ≡ sets l₁ (at + 8) (little 4 s) → l₂ ≡ sets l at (stored_as p s)
+unfolding frame_bytes
+frame_stored l l₁ l₂ at p s one two = sets_then l l₁ l₂ at 8 (little 8 p) (little 4 s) (length-little 8 p) one two
 
 pub record Storing (e : List ℕ) (n x : ℕ) (out₀ : List ℕ) (place : ℕ) (out : List ℕ) (left slot at : ℕ) : Type 0 where
   pub ahead : Along e left slot
-  pub room : at + left * frameLength 1 ≤ length out
-  pub rest : sets out at (framesAlong e left slot) ≡ sets out₀ place (framesAlong e n x)
+  pub room : at + left * frame_length 1 ≤ length out
+  pub rest : sets out at (frames_along e left slot) ≡ sets out₀ place (frames_along e n x)
   pub long : length out ≡ length out₀
-  pub ends : at + left * frameLength 1 ≡ place + n * frameLength 1
+  pub ends : at + left * frame_length 1 ≡ place + n * frame_length 1
 
 along-step : (f : ℕ → ℕ) (n x : ℕ) → 0 < n → along f n x ≡ x ∷ along f (n - 1) (f x)
 along-step f zero x h = absurd (omega arith)
@@ -37,21 +37,21 @@ along-step f (suc n) x h = let z : suc n - 1 ≡ n = omega arith in rw z
 
 module _ {e : List ℕ} {n x : ℕ} {out₀ : List ℕ} {place : ℕ} {out : List ℕ} {left slot at : ℕ} (s : Storing e n x out₀ place out left slot at) where
   module _ (h : 0 < left) where
-    pub storing-here : Within frameWidth e slot
-    storing-here = s.ahead.each 0 h
+    pub storing_here : Within frame_width e slot
+    storing_here = s.ahead.each 0 h
 
-    pub storing-room : at + frameLength 1 ≤ length out
-    storing-room = omega (arith, s.room)
+    pub storing_room : at + frame_length 1 ≤ length out
+    storing_room = omega (arith, s.room)
 
-    pub storing-next : (p z t : ℕ) (out₁ : List ℕ) → p ≡ payloadOf e slot → z ≡ bytes_of e slot → t ≡ next_of e slot → out₁ ≡ sets out at (storedAs p z)
-        → Storing e n x out₀ place out₁ (left - 1) t (at + frameLength 1)
-    storing-next p z t out₁ ep ez et eq =
-        let w : ℕ = frameLength 1 in
+    pub storing_next : (p z t : ℕ) (out₁ : List ℕ) → p ≡ payload_of e slot → z ≡ bytes_of e slot → t ≡ next_of e slot → out₁ ≡ sets out at (stored_as p z)
+        → Storing e n x out₀ place out₁ (left - 1) t (at + frame_length 1)
+    storing_next p z t out₁ ep ez et eq =
+        let w : ℕ = frame_length 1 in
         let a : along (next_of e) left slot ≡ slot ∷ along (next_of e) (left - 1) (next_of e slot) = along-step (next_of e) left slot h in
-        let r : List ℕ = framesAlong e (left - 1) (next_of e slot) in
-        let f : List ℕ = storedAs (payloadOf e slot) (bytes_of e slot) in
-        let u : framesAlong e left slot ≡ f ++ r = ap (λ (y : List ℕ). flat (map (λ s. storedAs (payloadOf e s) (bytes_of e s)) y)) a in
-        let q : out₁ ≡ sets out at f = eq ∙ ap (λ (y : ℕ). sets out at (storedAs y z)) ep ∙ ap (λ (y : ℕ). sets out at (storedAs (payloadOf e slot) y)) ez in
+        let r : List ℕ = frames_along e (left - 1) (next_of e slot) in
+        let f : List ℕ = stored_as (payload_of e slot) (bytes_of e slot) in
+        let u : frames_along e left slot ≡ f ++ r = ap (λ (y : List ℕ). flat (map (λ s. stored_as (payload_of e s) (bytes_of e s)) y)) a in
+        let q : out₁ ≡ sets out at f = eq ∙ ap (λ (y : ℕ). sets out at (stored_as y z)) ep ∙ ap (λ (y : ℕ). sets out at (stored_as (payload_of e slot) y)) ez in
         let g : sets out₁ (at + w) r ≡ sets out at (f ++ r) = sets_then out out₁ (sets out₁ (at + w) r) at w f r (length-frame 1 _) q refl in
         let k : length out₁ ≡ length out = ap length q ∙ length-sets out at f in
         record {
@@ -62,10 +62,10 @@ module _ {e : List ℕ} {n x : ℕ} {out₀ : List ℕ} {place : ℕ} {out : Lis
           ends = omega (arith, s.ends);
         }
 
-  pub storing-end : left ≤ 0 → at ≡ place + n * frameLength 1
-  storing-end h = omega (arith, s.ends)
+  pub storing_end : left ≤ 0 → at ≡ place + n * frame_length 1
+  storing_end h = omega (arith, s.ends)
 
-  pub storing-last : left ≤ 0 → out ≡ sets out₀ place (framesAlong e n x)
-  storing-last h =
+  pub storing_last : left ≤ 0 → out ≡ sets out₀ place (frames_along e n x)
+  storing_last h =
       let z : left ≡ 0 = omega arith in
-      subst (λ (y : ℕ). sets out at (framesAlong e y slot) ≡ sets out₀ place (framesAlong e n x)) z s.rest
+      subst (λ (y : ℕ). sets out at (frames_along e y slot) ≡ sets out₀ place (frames_along e n x)) z s.rest

@@ -3,33 +3,33 @@ use Rattle.std.specs.Prelude.{ℕ, suc, ◌+◌, ◌*◌, ◌-◌, ◌≤◌, �
 use Rattle.std.proofs.lemmas.List.Edits.{sets}
 use Rattle.marks.specs.Marks.{marked}
 use Rattle.rules.specs.Notation.{along, flat, keep}
-use Rattle.rules.specs.Tables.{payloadOf, next_of, bytes_of, State}
-use Rattle.rules.specs.Compress.{isLowest}
-use Rattle.rules.specs.RunFile.{StoredRun, frameBytes, bodyBytes, entries, entryBytes, firstBody}
-use Rattle.rules.specs.WriteFile.{runIn, runsIn}
+use Rattle.rules.specs.Tables.{payload_of, next_of, bytes_of, State}
+use Rattle.rules.specs.Compress.{is_lowest}
+use Rattle.rules.specs.RunFile.{StoredRun, frame_bytes, body_bytes, entries, entry_bytes, first_body}
+use Rattle.rules.specs.WriteFile.{run_in, runs_in}
 use Rattle.rules.specs.Calls.{Ready}
-use Rattle.rules.proofs.laws.Order.{Led}
+use Rattle.rules.proofs.Laws.Order.{Led}
 
 -- a frame's bytes, and those of `n` frames along next from `x`
-abbrev pub storedAs : (payload size : ℕ) → List ℕ
-storedAs payload size = frameBytes 1 (record { payload = payload; size = size })
+abbrev pub stored_as : (payload size : ℕ) → List ℕ
+stored_as payload size = frame_bytes 1 (record { payload = payload; size = size })
 
-abbrev pub framesAlong : List ℕ → (n x : ℕ) → List ℕ
-framesAlong e n x = flat (map (λ s. storedAs (payloadOf e s) (bytes_of e s)) (along (next_of e) n x))
+abbrev pub frames_along : List ℕ → (n x : ℕ) → List ℕ
+frames_along e n x = flat (map (λ s. stored_as (payload_of e s) (bytes_of e s)) (along (next_of e) n x))
 
 -- the bodies of runs back to back, and their entries, the first body beginning at `at`
-abbrev pub bodiesOf : List StoredRun → List ℕ
-bodiesOf rs = flat (map (bodyBytes 1) rs)
+abbrev pub bodies_of : List StoredRun → List ℕ
+bodies_of rs = flat (map (body_bytes 1) rs)
 
-abbrev pub entriesOf : (at : ℕ) → List StoredRun → List ℕ
-entriesOf at rs = flat (map entryBytes (entries 1 at rs))
+abbrev pub entries_of : (at : ℕ) → List StoredRun → List ℕ
+entries_of at rs = flat (map entry_bytes (entries 1 at rs))
 
 -- the runs that begin past the first `k` slots
-abbrev pub lowestPast : State → ℕ → List ℕ
-lowestPast st k = keep (isLowest st) (along suc (st.head.elems.extent - k) (suc k))
+abbrev pub lowest_past : State → ℕ → List ℕ
+lowest_past st k = keep (is_lowest st) (along suc (st.head.elems.extent - k) (suc k))
 
-abbrev pub runsFrom : State → ℕ → List StoredRun
-runsFrom st k = map (runIn st) (lowestPast st k)
+abbrev pub runs_from : State → ℕ → List StoredRun
+runs_from st k = map (run_in st) (lowest_past st k)
 
 -- the set holds the classes of the live slots among the first `k`, and has room for all
 pub record Marks (st : State) (k : ℕ) (seen : List ℕ) : Type 0 where
@@ -44,14 +44,14 @@ pub record Scans (st : State) (k : ℕ) (seen : List ℕ) : Type 0 where
   pub marks : Marks st k seen
 
 pub record Begins (st : State) (k : ℕ) (r : Bool) (seen : List ℕ) : Type 0 where
-  pub lowest : isLowest st (suc k) ≡ r
+  pub lowest : is_lowest st (suc k) ≡ r
   pub marks : Marks st (suc k) seen
 
 -- contents and bodies have room, the bodies from `first` on
 pub record FitsAll (st : State) (first : ℕ) (out : List ℕ) : Type 0 where
-  pub contents : firstBody (length (runsIn st)) ≤ first
-  pub bodies : first + length (bodiesOf (runsIn st)) ≤ length out
+  pub contents : first_body (length (runs_in st)) ≤ first
+  pub bodies : first + length (bodies_of (runs_in st)) ≤ length out
 
 -- contents and bodies are written, the bodies from `first` on
 abbrev pub Filled : State → (first : ℕ) → (out after : List ℕ) → Type 0
-Filled st first out after = after ≡ sets (sets out 8 (entriesOf first (runsIn st))) first (bodiesOf (runsIn st))
+Filled st first out after = after ≡ sets (sets out 8 (entries_of first (runs_in st))) first (bodies_of (runs_in st))

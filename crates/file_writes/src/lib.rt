@@ -2,14 +2,14 @@
 ghost use Rattle.std.specs.Prelude.{◌≡◌, false, ◌+◌, ◌*◌, ◌≤◌, ◌<◌, length};
 ghost use Rattle.std.proofs.lemmas.List.Edits.{sets};
 ghost use Rattle.rules.specs.Tables.{state_of};
-ghost use Rattle.rules.specs.RunFile.{frameLength, bodyLength, bodyBytes, firstBody};
-ghost use Rattle.rules.specs.WriteFile.{runIn, runsIn};
+ghost use Rattle.rules.specs.RunFile.{frame_length, body_length, body_bytes, first_body};
+ghost use Rattle.rules.specs.WriteFile.{run_in, runs_in};
 ghost use Rattle.rules.specs.Calls as calls;
 ghost use Rattle.rules.specs.Calls.{Ready, step};
-ghost use Rattle.rules.specs.Answers.{leaves, saidNumber};
-ghost use Rattle.rules.proofs.laws.Safe.{LiveSlot};
+ghost use Rattle.rules.specs.Answers.{leaves, said_number};
+ghost use Rattle.rules.proofs.Laws.Safe.{LiveSlot};
 ghost use Rattle.slots.specs.Asked.{Along};
-ghost use Rattle.file_writes.specs.Writes.{storedAs, framesAlong, bodiesOf, entriesOf, Marks, Begins, Scans, FitsAll, Filled};
+ghost use Rattle.file_writes.specs.Writes.{stored_as, frames_along, bodies_of, entries_of, Marks, Begins, Scans, FitsAll, Filled};
 
 use littles::{put4, put8};
 use rules::{
@@ -18,7 +18,7 @@ use rules::{
 };
 use slots::get;
 
-// The version that is written, and the bytes to a frame; in the rules, frameLength.
+// The version that is written, and the bytes to a frame; in the rules, frame_length.
 const VERSION: u64 = 1;
 
 const FRAME_LENGTH: u64 = 12;
@@ -42,8 +42,8 @@ fn begins(head: Head, elems: &[u64], shared: &[u64], seen: &mut [u64], i: u64) -
 
 // A frame's bytes at a place.
 fn write_frame(out: &mut [u8], at: usize, payload: u64, size: u64)
-    requires { at + frameLength 1 ≤ length out.old }
-    ensures { out.new ≡ sets out.old at (storedAs payload size) }
+    requires { at + frame_length 1 ≤ length out.old }
+    ensures { out.new ≡ sets out.old at (stored_as payload size) }
 {
     put8(out, at, payload);
     put4(out, at + 8, size);
@@ -51,8 +51,8 @@ fn write_frame(out: &mut [u8], at: usize, payload: u64, size: u64)
 
 // The frames of a ring from `x` on, from a place on; the answer is the place after them.
 fn write_frames(elems: &[u64], n: u64, x: u64, out: &mut [u8], place: usize) -> usize
-    requires { Along elems.now n x × (place + n * frameLength 1 ≤ length out.old) }
-    ensures { (result ≡ place + n * frameLength 1) × (out.new ≡ sets out.old place (framesAlong elems.now n x)) }
+    requires { Along elems.now n x × (place + n * frame_length 1 ≤ length out.old) }
+    ensures { (result ≡ place + n * frame_length 1) × (out.new ≡ sets out.old place (frames_along elems.now n x)) }
 {
     let mut left = n;
     let mut slot = x;
@@ -70,8 +70,8 @@ fn write_frames(elems: &[u64], n: u64, x: u64, out: &mut [u8], place: usize) -> 
 
 // A run's body at the start of what is lent; the answer is its length.
 fn write_body(head: Head, elems: &[u64], shared: &[u64], x: u64, out: &mut [u8]) -> usize
-    requires { Ready (state_of head elems.now shared.now) × LiveSlot (state_of head elems.now shared.now) x × (bodyLength 1 (runIn (state_of head elems.now shared.now) x) ≤ length out.old) }
-    ensures { (result ≡ bodyLength 1 (runIn (state_of head elems.now shared.now) x)) × (out.new ≡ sets out.old 0 (bodyBytes 1 (runIn (state_of head elems.now shared.now) x))) }
+    requires { Ready (state_of head elems.now shared.now) × LiveSlot (state_of head elems.now shared.now) x × (body_length 1 (run_in (state_of head elems.now shared.now) x) ≤ length out.old) }
+    ensures { (result ≡ body_length 1 (run_in (state_of head elems.now shared.now) x)) × (out.new ≡ sets out.old 0 (body_bytes 1 (run_in (state_of head elems.now shared.now) x))) }
 {
     let class = get(elems, FRAME, CLASS, x);
     let count = get(shared, HEADER, COUNT, class);
@@ -86,7 +86,7 @@ fn write_body(head: Head, elems: &[u64], shared: &[u64], x: u64, out: &mut [u8])
 // The length of a run's body, by its header's count.
 fn body_length(head: Head, elems: &[u64], shared: &[u64], x: u64) -> u64
     requires { Ready (state_of head elems.now shared.now) × LiveSlot (state_of head elems.now shared.now) x }
-    ensures { result ≡ bodyLength 1 (runIn (state_of head elems.now shared.now) x) }
+    ensures { result ≡ body_length 1 (run_in (state_of head elems.now shared.now) x) }
 {
     let class = get(elems, FRAME, CLASS, x);
     let count = get(shared, HEADER, COUNT, class);
@@ -103,7 +103,7 @@ fn write_contents(
     first: u64,
 )
     requires { Ready (state_of head elems.now shared.now) × Marks (state_of head elems.now shared.now) 0 seen.old × FitsAll (state_of head elems.now shared.now) first out.old }
-    ensures { out.new ≡ sets out.old 8 (entriesOf first (runsIn (state_of head elems.now shared.now))) }
+    ensures { out.new ≡ sets out.old 8 (entries_of first (runs_in (state_of head elems.now shared.now))) }
 {
     let mut i: u64 = 0;
     let mut entry: usize = 8;
@@ -133,7 +133,7 @@ fn write_bodies(
     first: usize,
 )
     requires { Ready (state_of head elems.now shared.now) × Marks (state_of head elems.now shared.now) 0 seen.old × FitsAll (state_of head elems.now shared.now) first out.old }
-    ensures { out.new ≡ sets out.old first (bodiesOf (runsIn (state_of head elems.now shared.now))) }
+    ensures { out.new ≡ sets out.old first (bodies_of (runs_in (state_of head elems.now shared.now))) }
 {
     let mut i: u64 = 0;
     let mut at = first;
@@ -185,7 +185,7 @@ fn write_runs(head: Head, elems: &[u64], shared: &[u64], out: &mut [u8], first: 
 // Ticket 11: all runs into the lent bytes; the answer is how many bytes. At the inner door.
 pub fn write_file(head: Head, elems: &[u64], shared: &[u64], file: &mut [u8]) -> Number
     requires { Ready (state_of head elems.now shared.now) }
-    ensures { leaves head elems.now shared.now file.new (saidNumber result false) ≡ step (state_of head elems.now shared.now) file.old calls.writeFile }
+    ensures { leaves head elems.now shared.now file.new (said_number result false) ≡ step (state_of head elems.now shared.now) file.old calls.write_file }
 {
     let runs = head.shared.live;
     let frames = head.elems.live;

@@ -7,11 +7,11 @@ use Rattle.rules.specs.declared.Done.{Done}
 use Rattle.rules.specs.declared.Done.TheVariants as done
 use Rattle.rules.specs.declared.Refusal.{Refusal}
 use Rattle.rules.specs.Tables.{State}
-use Rattle.rules.specs.Answers.{leaves, saidDone}
+use Rattle.rules.specs.Answers.{leaves, said_done}
 use Rattle.rules.specs.Refusals.{refuse, outcome}
 use Rattle.rules.specs.Undo.{Remembers}
 use Rattle.rules.specs.Calls.{Call, check, Ready, AtDoor}
-use Rattle.rules.proofs.laws.Doors.{passed}
+use Rattle.rules.proofs.Laws.Doors.{passed}
 use Rattle.gate.specs.Gate.{Gated}
 
 module _ (st : State) (r : Done) (g : Gated st r) where
@@ -22,6 +22,6 @@ module _ (st : State) (r : Done) (g : Gated st r) where
   shut n e = subst (Gated st) e g
 
 -- the check answers as the gate does
-pub told : (st : State) (r : Done) → Gated st r → AtDoor st [] check (leaves st.head st.elems st.shared [] (saidDone r false))
+pub told : (st : State) (r : Done) → Gated st r → AtDoor st [] check (leaves st.head st.elems st.shared [] (said_done r false))
 told st done.Done y = passed st [] check _ y refl
 told st (done.Refused n) g = g [] check

@@ -17,19 +17,19 @@ use Rattle.rules.specs.Notation.{if◌then◌else◌, ◌==◌}
 use Rattle.rules.specs.Tables.{State, state_of}
 use Rattle.rules.specs.Refusals.{Said, Outcome}
 use Rattle.rules.specs.Answers.{leaves}
-use Rattle.rules.specs.Calls.{Call, Is, AtDoor, freshStep}
+use Rattle.rules.specs.Calls.{Call, Is, AtDoor, fresh_step}
 use Rattle.rules.specs.ReadFile.{read_step}
-use Rattle.rules.proofs.laws.Tests.{eq_is}
-use Rattle.rules.proofs.laws.Refused.{refused-changes-nothing, refused-fresh, refused-read}
-use Rattle.numbers.specs.Numbers.{head_of, values, Answered, valuesOver}
+use Rattle.rules.proofs.Laws.Tests.{eq_is}
+use Rattle.rules.proofs.Laws.Refused.{refused_changes_nothing, refused-fresh, refused-read}
+use Rattle.numbers.specs.Numbers.{head_of, values, Answered, values_over}
 use Rattle.promises.specs.Host.{Left, left, shown, AtHost, AtFresh, AtRead}
 use Rattle.rules.specs.TwoTables.{TwoOutcome}
 use Rattle.rules.specs.Copy.{AtCopy}
 use Rattle.rules.specs.Move.{AtMove}
-use Rattle.rules.proofs.laws.Copying.{copying}
-use Rattle.rules.proofs.laws.Moving.{moving}
+use Rattle.rules.proofs.Laws.Copying.{copying}
+use Rattle.rules.proofs.Laws.Moving.{moving}
 use Rattle.promises.specs.InPlace.{AtHead, left_at}
-use Rattle.promises.specs.Two.{leftTwo, AtHostCopy, AtHostMove}
+use Rattle.promises.specs.Two.{left_two, AtHostCopy, AtHostMove}
 use Rattle.numbers.proofs.Told.{small}
 
 -- a refused call, whose number is not 0, hands back the head that it was given: so that the head is the next one also where it was not stored
@@ -62,7 +62,7 @@ module _ (c : Call) (numbers : Said → List ℕ) (head elems shared lent out : 
       → AtHost c numbers head elems shared lent out (left r after elems' shared' lent' out')
   stepped h next said r after elems' shared' lent' out' p d a q =
       hosted h next said r after elems' shared' lent' out' p d
-      (q ∙ kept r next (head_of head) (λ n. ap (λ (st : State). st.head) (refused-changes-nothing (state_of h elems shared) lent c (leaves next elems' shared' lent' said) d (λ e. n (a.number ∙ (small said 0 (lit< tt)).1 e))).state ∙ p))
+      (q ∙ kept r next (head_of head) (λ n. ap (λ (st : State). st.head) (refused_changes_nothing (state_of h elems shared) lent c (leaves next elems' shared' lent' said) d (λ e. n (a.number ∙ (small said 0 (lit< tt)).1 e))).state ∙ p))
       a
 
 -- the same of a call that has no door but its own
@@ -82,53 +82,53 @@ module _ (step : State → Outcome) (refused : (st : State) → (step st).said.n
 
 -- fresh, and the reader
 module _ (head elems shared : List ℕ) (h next : Head) (said : Said) (r : ℕ) (after elems' shared' : List ℕ) (p : h ≡ head_of head) where
-  pub freshened : (elemCapacity sharedCapacity : ℕ)
-      → leaves next elems' shared' [] said ≡ freshStep (state_of h elems shared) elemCapacity sharedCapacity
+  pub freshened : (elem_capacity shared_capacity : ℕ)
+      → leaves next elems' shared' [] said ≡ fresh_step (state_of h elems shared) elem_capacity shared_capacity
       → Answered values said [] r []
       → head_of after ≡ (if r == 0 then next else head_of head)
-      → AtFresh elemCapacity sharedCapacity head elems shared (left r after elems' shared' [] [])
-  freshened ec sc d a q = record { same = own-door (λ st. freshStep st ec sc) (λ st n. (refused-fresh st ec sc n).state) head elems shared h next said r after elems' shared' p d a q }
+      → AtFresh elem_capacity shared_capacity head elems shared (left r after elems' shared' [] [])
+  freshened ec sc d a q = record { same = own-door (λ st. fresh_step st ec sc) (λ st n. (refused-fresh st ec sc n).state) head elems shared h next said r after elems' shared' p d a q }
 
-  pub read-in : (file : List ℕ)
+  pub read_in_lem : (file : List ℕ)
       → leaves next elems' shared' [] said ≡ read_step (state_of h elems shared) file
       → Answered values said [] r []
       → head_of after ≡ (if r == 0 then next else head_of head)
       → AtRead file head elems shared (left r after elems' shared' [] [])
-  read-in file d a q = record { same = own-door (λ st. read_step st file) (λ st n. (refused-read st file n).state) head elems shared h next said r after elems' shared' p d a q }
+  read_in_lem file d a q = record { same = own-door (λ st. read_step st file) (λ st n. (refused-read st file n).state) head elems shared h next said r after elems' shared' p d a q }
 
 -- the same of the copy: the target's head is stored if it was accepted, the source is as it was
-module _ (head elems shared fromHead fromElems fromShared : List ℕ) where
+module _ (head elems shared from_head from_elems from_shared : List ℕ) where
   pub copied-to : (h source next : Head) (said : Said) (r : ℕ) (after elems' shared' : List ℕ)
-      → h ≡ head_of head → source ≡ head_of fromHead
-      → AtCopy (state_of h elems shared) (state_of source fromElems fromShared) (record { said = said; target = state_of next elems' shared'; source = state_of source fromElems fromShared })
+      → h ≡ head_of head → source ≡ head_of from_head
+      → AtCopy (state_of h elems shared) (state_of source from_elems from_shared) (record { said = said; target = state_of next elems' shared'; source = state_of source from_elems from_shared })
       → Answered values said [] r []
       → head_of after ≡ (if r == 0 then next else head_of head)
-      → AtHostCopy head elems shared fromHead fromElems fromShared (leftTwo r after elems' shared' fromHead fromElems fromShared [])
+      → AtHostCopy head elems shared from_head from_elems from_shared (left_two r after elems' shared' from_head from_elems from_shared [])
   copied-to h source next said r after elems' shared' p f d a q =
-      let o : TwoOutcome = record { said = said; target = state_of next elems' shared'; source = state_of source fromElems fromShared } in
-      let unchanged : r ≢ 0 → next ≡ head_of head = λ n. ap (λ (st : State). st.head) ((copying (state_of h elems shared) (state_of source fromElems fromShared) o d).refused (λ e. n (a.number ∙ (small said 0 (lit< tt)).1 e))) ∙ p in
+      let o : TwoOutcome = record { said = said; target = state_of next elems' shared'; source = state_of source from_elems from_shared } in
+      let unchanged : r ≢ 0 → next ≡ head_of head = λ n. ap (λ (st : State). st.head) ((copying (state_of h elems shared) (state_of source from_elems from_shared) o d).refused (λ e. n (a.number ∙ (small said 0 (lit< tt)).1 e))) ∙ p in
       let same : head_of after ≡ next = q ∙ kept r next (head_of head) unchanged in
       record {
-        outcome = record { said = said; target = state_of next elems' shared'; source = state_of (head_of fromHead) fromElems fromShared };
+        outcome = record { said = said; target = state_of next elems' shared'; source = state_of (head_of from_head) from_elems from_shared };
         door = rw (p, f) at d;
-        same = λ i. record { number = a.number i; target = state_of (same i) elems' shared'; source = state_of (head_of fromHead) fromElems fromShared; out = a.out i };
+        same = λ i. record { number = a.number i; target = state_of (same i) elems' shared'; source = state_of (head_of from_head) from_elems from_shared; out = a.out i };
       }
 
 -- the same of the move: both heads are stored if it was accepted
-module _ (g : ℕ) (head elems shared fromHead fromElems fromShared out : List ℕ) where
+module _ (g : ℕ) (head elems shared from_head from_elems from_shared out : List ℕ) where
   pub moved_to : (h source next left : Head) (said : Said) (r : ℕ) (after elems' shared' from frames' headers' out' : List ℕ)
-      → h ≡ head_of head → source ≡ head_of fromHead
-      → AtMove (state_of h elems shared) (state_of source fromElems fromShared) g (record { said = said; target = state_of next elems' shared'; source = state_of left frames' headers' })
-      → Answered valuesOver said out r out'
+      → h ≡ head_of head → source ≡ head_of from_head
+      → AtMove (state_of h elems shared) (state_of source from_elems from_shared) g (record { said = said; target = state_of next elems' shared'; source = state_of left frames' headers' })
+      → Answered values_over said out r out'
       → head_of after ≡ (if r == 0 then next else head_of head)
-      → head_of from ≡ (if r == 0 then left else head_of fromHead)
-      → AtHostMove g head elems shared fromHead fromElems fromShared out (leftTwo r after elems' shared' from frames' headers' out')
+      → head_of from ≡ (if r == 0 then left else head_of from_head)
+      → AtHostMove g head elems shared from_head from_elems from_shared out (left_two r after elems' shared' from frames' headers' out')
   moved_to h source next left said r after elems' shared' from frames' headers' out' p f d a q w =
       let o : TwoOutcome = record { said = said; target = state_of next elems' shared'; source = state_of left frames' headers' } in
-      let T = moving (state_of h elems shared) (state_of source fromElems fromShared) g o d in
+      let T = moving (state_of h elems shared) (state_of source from_elems from_shared) g o d in
       let not-zero : r ≢ 0 → said.number ≢ 0 = λ n e. n (a.number ∙ (small said 0 (lit< tt)).1 e) in
       let same : head_of after ≡ next = q ∙ kept r next (head_of head) (λ n. ap (λ (st : State). st.head) (T.refused (not-zero n)).0 ∙ p) in
-      let alike : head_of from ≡ left = w ∙ kept r left (head_of fromHead) (λ n. ap (λ (st : State). st.head) (T.refused (not-zero n)).1 ∙ f) in
+      let alike : head_of from ≡ left = w ∙ kept r left (head_of from_head) (λ n. ap (λ (st : State). st.head) (T.refused (not-zero n)).1 ∙ f) in
       record {
         outcome = o;
         door = rw (p, f) at d;
@@ -153,7 +153,7 @@ unmoved c numbers head elems shared out number next elems' shared' out' e t = su
     not-zero z = subst (λ (n : ℕ). T (not (n == 0))) z t
 
     same : next ≡ head
-    same = ap (λ (l : Left). l.state.head) e.same ∙ ap (λ (st : State). st.head) (refused-changes-nothing (state_of head elems shared) [] c e.outcome e.door (λ z. not-zero (ap (λ (l : Left). l.number) e.same ∙ (small e.outcome.said 0 (lit< tt)).1 z))).state
+    same = ap (λ (l : Left). l.state.head) e.same ∙ ap (λ (st : State). st.head) (refused_changes_nothing (state_of head elems shared) [] c e.outcome e.door (λ z. not-zero (ap (λ (l : Left). l.number) e.same ∙ (small e.outcome.said 0 (lit< tt)).1 z))).state
 
 -- for a walk: `if c { a }`, where `a` returns, and then `b`
 module _ {M : Type 1} {𝓤 : Ura M} {𝓛 : Logic 𝓤} {K : Type 0} {Γ : List (Item 𝓤)} {E : Env 𝓤 𝓛.H} {C : Calls 𝓤 𝓛.H} {Λ : Loops 𝓤 𝓛.H} {q : Post 𝓤 𝓛.H} where

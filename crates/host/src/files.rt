@@ -1,6 +1,6 @@
 // Run files: the writer, which changes neither head nor tables, and the reader.
 ghost use Rattle.std.specs.Prelude.{[]};
-ghost use Rattle.rules.specs.Calls.{writeFile};
+ghost use Rattle.rules.specs.Calls.{write_file};
 ghost use Rattle.numbers.specs.Numbers.{values};
 ghost use Rattle.promises.specs.Host.{AtHost, AtRead, left};
 
@@ -16,7 +16,7 @@ pub extern "C" fn doorsedge_write_file(
     file: &mut [u8],
     out: &mut [u64; 1],
 ) -> u64
-    ensures { AtHost writeFile values head.now elems.now shared.now file.old out.old (left result head.now elems.now shared.now file.new out.new) }
+    ensures { AtHost write_file values head.now elems.now shared.now file.old out.old (left result head.now elems.now shared.now file.new out.new) }
 {
     let answer = door::write_file(unpack(*head), elems, shared, file);
     answers::number(answer, out)

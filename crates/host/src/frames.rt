@@ -1,7 +1,7 @@
 // Frames in and out.
 ghost use Rattle.std.specs.Prelude.{◌≡◌, []};
-ghost use Rattle.rules.specs.Calls.{newRun, insert, union, undo, remove, removeShared};
-ghost use Rattle.numbers.specs.Numbers.{values, valuesOver, removalNumbers};
+ghost use Rattle.rules.specs.Calls.{new_run, insert, union, undo, remove, remove_shared};
+ghost use Rattle.numbers.specs.Numbers.{values, values_over, removal_numbers};
 ghost use Rattle.promises.specs.Host.{key_of, AtHost, left};
 
 use heads::{store, unpack};
@@ -19,7 +19,7 @@ pub extern "C" fn doorsedge_insert_surject(
     size: u32,
     out: &mut [u64; 2],
 ) -> u64
-    ensures { AtHost (newRun payload value size) values head.old elems.old shared.old [] out.old (left result head.new elems.new shared.new [] out.new) }
+    ensures { AtHost (new_run payload value size) values head.old elems.old shared.old [] out.old (left result head.new elems.new shared.new [] out.new) }
 {
     let step = door::insert_surject(unpack(*head), elems, shared, payload, value, size);
     let next = step.head;
@@ -118,7 +118,7 @@ pub extern "C" fn doorsedge_remove_element(
     generation: u64,
     out: &mut [u64; 4],
 ) -> u64
-    ensures { AtHost (remove (key_of slot generation)) removalNumbers head.old elems.old shared.old [] out.old (left result head.new elems.new shared.new [] out.new) }
+    ensures { AtHost (remove (key_of slot generation)) removal_numbers head.old elems.old shared.old [] out.old (left result head.new elems.new shared.new [] out.new) }
 {
     let step = door::remove_element(
         unpack(*head),
@@ -146,7 +146,7 @@ pub extern "C" fn doorsedge_remove_shared(
     generation: u64,
     out: &mut [u64; 2],
 ) -> u64
-    ensures { AtHost (removeShared (key_of slot generation)) valuesOver head.old elems.old shared.old [] out.old (left result head.new elems.new shared.new [] out.new) }
+    ensures { AtHost (remove_shared (key_of slot generation)) values_over head.old elems.old shared.old [] out.old (left result head.new elems.new shared.new [] out.new) }
 {
     let step = door::remove_shared(
         unpack(*head),

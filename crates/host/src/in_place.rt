@@ -1,6 +1,6 @@
 // The head lent in place: a host lends its own struct, which lies as the thirteen numbers do (docs/LAYOUT.md).
 ghost use Rattle.rules.specs.Calls.{insert, remove};
-ghost use Rattle.numbers.specs.Numbers.{values, removalNumbers};
+ghost use Rattle.numbers.specs.Numbers.{values, removal_numbers};
 ghost use Rattle.promises.specs.Host.{key_of};
 ghost use Rattle.promises.specs.InPlace.{AtHead, left_at};
 
@@ -71,7 +71,7 @@ fn remove_said(
     generation: u64,
     out: &mut [u64; 4],
 ) -> HeadSaid
-    ensures { AtHead (remove (key_of slot generation)) removalNumbers head elems.old shared.old out.old (left_at result.number result.head elems.new shared.new out.new) }
+    ensures { AtHead (remove (key_of slot generation)) removal_numbers head elems.old shared.old out.old (left_at result.number result.head elems.new shared.new out.new) }
 {
     let key = Key {
         slot: slot,
@@ -96,7 +96,7 @@ pub extern "C" fn doorsedge_remove_in_place(
     generation: u64,
     out: &mut [u64; 4],
 ) -> u64
-    ensures { AtHead (remove (key_of slot generation)) removalNumbers head.old elems.old shared.old out.old (left_at result head.new elems.new shared.new out.new) }
+    ensures { AtHead (remove (key_of slot generation)) removal_numbers head.old elems.old shared.old out.old (left_at result head.new elems.new shared.new out.new) }
 {
     let said = remove_said(*head, elems, shared, slot, generation, out);
     if said.number != 0 {

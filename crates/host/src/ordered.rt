@@ -1,7 +1,7 @@
 // Compression that keeps the slot order and tells the new keys.
 ghost use Rattle.std.specs.Prelude.{◌≡◌};
-ghost use Rattle.rules.specs.Calls.{compressWith};
-ghost use Rattle.numbers.specs.Numbers.{valuesOver};
+ghost use Rattle.rules.specs.Calls.{compress_with};
+ghost use Rattle.numbers.specs.Numbers.{values_over};
 ghost use Rattle.promises.specs.Host.{AtHost, left, is_set};
 
 use heads::{store, unpack};
@@ -17,7 +17,7 @@ pub extern "C" fn doorsedge_compress_with(
     pairs: &mut [u64],
     out: &mut [u64; 2],
 ) -> u64
-    ensures { AtHost (compressWith (is_set reset)) valuesOver head.old elems.old shared.old pairs.old out.old (left result head.new elems.new shared.new pairs.new out.new) }
+    ensures { AtHost (compress_with (is_set reset)) values_over head.old elems.old shared.old pairs.old out.old (left result head.new elems.new shared.new pairs.new out.new) }
 {
     let step = door::compress_with(unpack(*head), elems, shared, pairs, reset != 0);
     let next = step.head;

@@ -1,6 +1,6 @@
 // Reads: they change nothing but `out` and the lent places.
 ghost use Rattle.std.specs.Prelude.{◌≡◌, []};
-ghost use Rattle.rules.specs.Calls.{lenSurject, inSameSurject, getElement, getShared, getSize, getTotal, lookup, list};
+ghost use Rattle.rules.specs.Calls.{len_surject, in_same_surject, get_element, get_shared, get_size, get_total, lookup, list};
 ghost use Rattle.numbers.specs.Numbers.{values};
 ghost use Rattle.promises.specs.Host.{key_of, AtHost, left};
 
@@ -18,7 +18,7 @@ pub extern "C" fn doorsedge_len_surject(
     generation: u64,
     out: &mut [u64; 1],
 ) -> u64
-    ensures { AtHost (lenSurject (key_of slot generation)) values head.now elems.now shared.now [] out.old (left result head.now elems.now shared.now [] out.new) }
+    ensures { AtHost (len_surject (key_of slot generation)) values head.now elems.now shared.now [] out.old (left result head.now elems.now shared.now [] out.new) }
 {
     let answer = door::len_surject(
         unpack(*head),
@@ -44,7 +44,7 @@ pub extern "C" fn doorsedge_in_same_surject(
     generation1: u64,
     out: &mut [u64; 1],
 ) -> u64
-    ensures { AtHost (inSameSurject (key_of slot0 generation0) (key_of slot1 generation1)) values head.now elems.now shared.now [] out.old (left result head.now elems.now shared.now [] out.new) }
+    ensures { AtHost (in_same_surject (key_of slot0 generation0) (key_of slot1 generation1)) values head.now elems.now shared.now [] out.old (left result head.now elems.now shared.now [] out.new) }
 {
     let answer = door::in_same_surject(
         unpack(*head),
@@ -72,7 +72,7 @@ pub extern "C" fn doorsedge_get(
     generation: u64,
     out: &mut [u64; 1],
 ) -> u64
-    ensures { AtHost (getElement (key_of slot generation)) values head.now elems.now shared.now [] out.old (left result head.now elems.now shared.now [] out.new) }
+    ensures { AtHost (get_element (key_of slot generation)) values head.now elems.now shared.now [] out.old (left result head.now elems.now shared.now [] out.new) }
 {
     let answer = door::get(
         unpack(*head),
@@ -96,7 +96,7 @@ pub extern "C" fn doorsedge_get_shared(
     generation: u64,
     out: &mut [u64; 1],
 ) -> u64
-    ensures { AtHost (getShared (key_of slot generation)) values head.now elems.now shared.now [] out.old (left result head.now elems.now shared.now [] out.new) }
+    ensures { AtHost (get_shared (key_of slot generation)) values head.now elems.now shared.now [] out.old (left result head.now elems.now shared.now [] out.new) }
 {
     let answer = door::get_shared(
         unpack(*head),
@@ -120,7 +120,7 @@ pub extern "C" fn doorsedge_get_size(
     generation: u64,
     out: &mut [u64; 1],
 ) -> u64
-    ensures { AtHost (getSize (key_of slot generation)) values head.now elems.now shared.now [] out.old (left result head.now elems.now shared.now [] out.new) }
+    ensures { AtHost (get_size (key_of slot generation)) values head.now elems.now shared.now [] out.old (left result head.now elems.now shared.now [] out.new) }
 {
     let answer = door::get_size(
         unpack(*head),
@@ -144,7 +144,7 @@ pub extern "C" fn doorsedge_get_total(
     generation: u64,
     out: &mut [u64; 1],
 ) -> u64
-    ensures { AtHost (getTotal (key_of slot generation)) values head.now elems.now shared.now [] out.old (left result head.now elems.now shared.now [] out.new) }
+    ensures { AtHost (get_total (key_of slot generation)) values head.now elems.now shared.now [] out.old (left result head.now elems.now shared.now [] out.new) }
 {
     let answer = door::get_total(
         unpack(*head),

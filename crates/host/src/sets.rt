@@ -1,6 +1,6 @@
 // Sets: keys and rings stay as they are, and nothing is left to undo.
 ghost use Rattle.std.specs.Prelude.{◌≡◌, []};
-ghost use Rattle.rules.specs.Calls.{setElement, setShared, exchange};
+ghost use Rattle.rules.specs.Calls.{set_element, set_shared, exchange};
 ghost use Rattle.numbers.specs.Numbers.{values};
 ghost use Rattle.promises.specs.Host.{key_of, AtHost, left, keys_of};
 
@@ -43,7 +43,7 @@ pub extern "C" fn doorsedge_set(
     payload: u64,
     out: &mut [u64; 1],
 ) -> u64
-    ensures { AtHost (setElement (key_of slot generation) payload) values head.old elems.old shared.now [] out.old (left result head.new elems.new shared.now [] out.new) }
+    ensures { AtHost (set_element (key_of slot generation) payload) values head.old elems.old shared.now [] out.old (left result head.new elems.new shared.now [] out.new) }
 {
     let step = door::set(
         unpack(*head),
@@ -73,7 +73,7 @@ pub extern "C" fn doorsedge_set_shared(
     value: u64,
     out: &mut [u64; 1],
 ) -> u64
-    ensures { AtHost (setShared (key_of slot generation) value) values head.old elems.now shared.old [] out.old (left result head.new elems.now shared.new [] out.new) }
+    ensures { AtHost (set_shared (key_of slot generation) value) values head.old elems.now shared.old [] out.old (left result head.new elems.now shared.new [] out.new) }
 {
     let step = door::set_shared(
         unpack(*head),

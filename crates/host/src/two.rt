@@ -1,6 +1,6 @@
 // Two recorders' tables: the target first, then the source.
 ghost use Rattle.std.specs.Prelude.{[]};
-ghost use Rattle.promises.specs.Two.{leftTwo, AtHostCopy, AtHostMove};
+ghost use Rattle.promises.specs.Two.{left_two, AtHostCopy, AtHostMove};
 
 use heads::{store, unpack};
 use numbers::answers;
@@ -15,7 +15,7 @@ pub extern "C" fn doorsedge_clone_from(
     frames: &[u64],
     headers: &[u64],
 ) -> u64
-    ensures { AtHostCopy head.old elems.old shared.old source.now frames.now headers.now (leftTwo result head.new elems.new shared.new source.now frames.now headers.now []) }
+    ensures { AtHostCopy head.old elems.old shared.old source.now frames.now headers.now (left_two result head.new elems.new shared.new source.now frames.now headers.now []) }
 {
     let from = unpack(*source);
     let step = door::clone_from(unpack(*head), elems, shared, from, frames, headers);
@@ -38,7 +38,7 @@ pub extern "C" fn doorsedge_transfer_canonical(
     headers: &mut [u64],
     out: &mut [u64; 1],
 ) -> u64
-    ensures { AtHostMove generation head.old elems.old shared.old source.old frames.old headers.old out.old (leftTwo result head.new elems.new shared.new source.new frames.new headers.new out.new) }
+    ensures { AtHostMove generation head.old elems.old shared.old source.old frames.old headers.old out.old (left_two result head.new elems.new shared.new source.new frames.new headers.new out.new) }
 {
     let leaving = unpack(*source);
     let step = door::transfer_canonical(

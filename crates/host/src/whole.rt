@@ -1,7 +1,7 @@
 // All at once: fresh, the check, drains, clear, compression.
 ghost use Rattle.std.specs.Prelude.{◌≡◌, []};
-ghost use Rattle.rules.specs.Calls.{check, drain, drainAll, clear, compress};
-ghost use Rattle.numbers.specs.Numbers.{values, valuesOver};
+ghost use Rattle.rules.specs.Calls.{check, drain, drain_all, clear, compress};
+ghost use Rattle.numbers.specs.Numbers.{values, values_over};
 ghost use Rattle.promises.specs.Host.{key_of, AtHost, left, is_set, AtFresh};
 
 use heads::{store, unpack};
@@ -44,7 +44,7 @@ pub extern "C" fn doorsedge_clear(
     shared: &mut [u64],
     out: &mut [u64; 1],
 ) -> u64
-    ensures { AtHost (clear) valuesOver head.old elems.old shared.old [] out.old (left result head.new elems.new shared.new [] out.new) }
+    ensures { AtHost (clear) values_over head.old elems.old shared.old [] out.old (left result head.new elems.new shared.new [] out.new) }
 {
     let step = door::clear(unpack(*head), elems, shared);
     let next = step.head;
@@ -64,7 +64,7 @@ pub extern "C" fn doorsedge_compress_canonical(
     scratch: &mut [u64],
     out: &mut [u64; 1],
 ) -> u64
-    ensures { AtHost (compress (is_set reset)) valuesOver head.old elems.old shared.old scratch.old out.old (left result head.new elems.new shared.new scratch.new out.new) }
+    ensures { AtHost (compress (is_set reset)) values_over head.old elems.old shared.old scratch.old out.old (left result head.new elems.new shared.new scratch.new out.new) }
 {
     let step = door::compress_canonical(unpack(*head), elems, shared, scratch, reset != 0);
     let next = step.head;
@@ -113,7 +113,7 @@ pub extern "C" fn doorsedge_drain_all(
     records: &mut [u64],
     out: &mut [u64; 1],
 ) -> u64
-    ensures { AtHost (drainAll) values head.old elems.old shared.old records.old out.old (left result head.new elems.new shared.new records.new out.new) }
+    ensures { AtHost (drain_all) values head.old elems.old shared.old records.old out.old (left result head.new elems.new shared.new records.new out.new) }
 {
     let step = door::drain_all(unpack(*head), elems, shared, records);
     let next = step.head;

@@ -53,7 +53,7 @@ use Rattle.rules.specs.contracts.Inserted as E
 use Rattle.rules.proofs.Inserted.TheLaws as E'
 use Rattle.inserts.specs.contracts.insert as callee
 use Rattle.inplace.specs.contracts.insert_in_place as self
-use Rattle.inplace.proofs.Pieces.{holds, lent, table, pointer, behind, whole_of, part_of, lends-on}
+use Rattle.inplace.proofs.Pieces.{holds, lent, table, pointer, behind, whole_of, part_of, lends_on}
 
 -- the function, by its step's name
 abbrev pub function : Name → Fn
@@ -62,7 +62,7 @@ function n = record {
   outlives = [];
   params = 6;
   locals = holds E'.mir ∷ lent ∷ table (named 1) ∷ table (named 2) ∷ holds K'.mir ∷ holds (ty_int w64) ∷ holds (ty_int w32) ∷ holds N'.mir ∷ holds T'.mir ∷ holds (pointer erased) ∷ table erased ∷ holds (pointer erased) ∷ table erased ∷ [];
-  body = seq (assign (place 8 []) (rv_opd (copy behind))) (lends-on 2 9 10 (lends-on 3 11 12
+  body = seq (assign (place 8 []) (rv_opd (copy behind))) (lends_on 2 9 10 (lends_on 3 11 12
       (seq (call n (whole_of 8 ∷ whole_of 10 ∷ whole_of 12 ∷ whole_of 4 ∷ whole_of 5 ∷ whole_of 6 ∷ []) (place 7 []))
       (seq (assign behind (rv_opd (part_of 7 0))) (seq (assign (place 0 []) (rv_opd (part_of 7 1))) return)))));
 }
@@ -71,17 +71,17 @@ abbrev stayed : Stays (self.ended).signature.params (self.ended).kept
 stayed = (stay_ref (0 ∷ []) tt (plain (λ _. T.the_row)), (gave_slice (1 ∷ []) tt (plain (λ _. u64)), (gave_slice (2 ∷ []) tt (plain (λ _. u64)), (stay_none (λ _. K.the_row) yes, (stay_none (λ _. u64) yes, (stay_none (λ _. u32) yes, tt))))))
 
 -- the machine values of a head, an answer with a head, a key and an answer
-abbrev machT : Head → Val
-machT h = only (LL.vals T.the_type T'.the_laws h)
+abbrev mach_t : Head → Val
+mach_t h = only (LL.vals T.the_type T'.the_laws h)
 
-abbrev machN : HeadInserted → Val
-machN r = only (LL.vals N.the_type N'.the_laws r)
+abbrev mach_n : HeadInserted → Val
+mach_n r = only (LL.vals N.the_type N'.the_laws r)
 
-abbrev machK : Key → Val
-machK k = only (LL.vals K.the_type K'.the_laws k)
+abbrev mach_k : Key → Val
+mach_k k = only (LL.vals K.the_type K'.the_laws k)
 
-abbrev machE : Inserted → Val
-machE r = only (EL.vals E.the_type E'.the_laws r)
+abbrev mach_e : Inserted → Val
+mach_e r = only (EL.vals E.the_type E'.the_laws r)
 
 -- what a step asks and does: at its head and tables before; and at its key, number and size, the head and answer after, and the tables after
 abbrev pub Asks : {M : Type 1} → Ura M → Type 2
@@ -110,7 +110,7 @@ abbrev pub Stepped : {M : Type 1} {𝓤 : Ura M} (𝓛 : Logic 𝓤) → Asks �
 Stepped {𝓤 = 𝓤} 𝓛 P Q = triple_of 𝓛 callee.signature (closing 𝓛 callee.ended (by_value 𝓤 P Q))
 
 module _ {M : Type 1} {𝓤 : Ura M} (𝓛 : Logic 𝓤) (P : Asks 𝓤) (Q : Does) (κ κ₁ κ₂ : Lft) (bounds : AllOutlive 3 (self.signature).outlives (κ, (κ₁, (κ₂, tt)))) (q q₁ q₂ : Share) (b o : ℕ) (γ : GName) (h : Head) (b₁ o₁ : ℕ) (γ₁ : GName) (ys₁ : List ℕ) (b₂ o₂ : ℕ) (γ₂ : GName) (ys₂ : List ℕ) (k : Key) (v z : ℕ)
-    (v-fits : v < 2 ^ 64) (z-fits : z < 2 ^ 32) (room₁ : Room u64 (length ys₁)) (room₂ : Room u64 (length ys₂)) (k-is : Is K.the_row k (machK k ∷ [])) where
+    (v_fits : v < 2 ^ 64) (z_fits : z < 2 ^ 32) (room₁ : Room u64 (length ys₁)) (room₂ : Room u64 (length ys₂)) (k_is : Is K.the_row k (mach_k k ∷ [])) where
   open 𝓛 use {H}
 
   abbrev x₁ : MutBor (List ℕ)
@@ -132,7 +132,7 @@ module _ {M : Type 1} {𝓤 : Ura M} (𝓛 : Logic 𝓤) (P : Asks 𝓤) (Q : Do
   a = (record { ref_ptr = (b, o); ghost_name = γ; now = h }, (x₁, (x₂, (k, (v, (z, tt))))))
 
   abbrev vals : List Val × (List Val × (List Val × (List Val × (List Val × (List Val × Unit {0})))))
-  vals = (vptr b o ∷ [], (s₁ ∷ [], (s₂ ∷ [], (machK k ∷ [], (vint w64 v ∷ [], (vint w32 z ∷ [], tt))))))
+  vals = (vptr b o ∷ [], (s₁ ∷ [], (s₂ ∷ [], (mach_k k ∷ [], (vint w64 v ∷ [], (vint w32 z ∷ [], tt))))))
 
   abbrev Post : Val → SProp 𝓤
   Post = (walk_of 𝓛 self.ended stayed (in_place 𝓤 P Q)).post (((κ, (κ₁, (κ₂, tt))), (q, (q₁, (q₂, tt))), bounds, a, vals), tt)
@@ -141,38 +141,38 @@ module _ {M : Type 1} {𝓤 : Ura M} (𝓛 : Logic 𝓤) (P : Asks 𝓤) (Q : Do
   abbrev args : Head × (MutBor (List ℕ) × (MutBor (List ℕ) × (Key × (ℕ × (ℕ × Unit {0})))))
   args = (h, (x₁, (x₂, (k, (v, (z, tt))))))
 
-  abbrev to-callee : (Stepped 𝓛 P Q).Ghost
-  to-callee = (((κ₁, (κ₂, tt)), (q₁, (q₂, tt)), tt, args, (machT h ∷ [], (s₁ ∷ [], (s₂ ∷ [], (machK k ∷ [], (vint w64 v ∷ [], (vint w32 z ∷ [], tt))))))), tt)
+  abbrev to_callee : (Stepped 𝓛 P Q).Ghost
+  to_callee = (((κ₁, (κ₂, tt)), (q₁, (q₂, tt)), tt, args, (mach_t h ∷ [], (s₁ ∷ [], (s₂ ∷ [], (mach_k k ∷ [], (vint w64 v ∷ [], (vint w32 z ∷ [], tt))))))), tt)
 
-  goes : Is T.the_row h (machT h ∷ []) → ent 𝓤 (⋆ 𝓛 (raw (P h ys₁ ys₂) ∷ (‵ (flft κ₁ q₁) ⊛ ‵ (flft κ₂ q₂) ⊛ ‵ ftrue) ∷ ‵ ((MutSlice (named 0) κ₁ u64).own_val x₁ (s₁ ∷ [])) ∷ ‵ ((MutSlice (named 1) κ₂ u64).own_val x₂ (s₂ ∷ [])) ∷ [])) ((Stepped 𝓛 P Q).pre to-callee)
+  goes : Is T.the_row h (mach_t h ∷ []) → ent 𝓤 (⋆ 𝓛 (raw (P h ys₁ ys₂) ∷ (‵ (flft κ₁ q₁) ⊛ ‵ (flft κ₂ q₂) ⊛ ‵ ftrue) ∷ ‵ ((MutSlice (named 0) κ₁ u64).own_val x₁ (s₁ ∷ [])) ∷ ‵ ((MutSlice (named 1) κ₂ u64).own_val x₂ (s₂ ∷ [])) ∷ [])) ((Stepped 𝓛 P Q).pre to_callee)
   goes is =
-      qed 𝓛 (raw (P h ys₁ ys₂) ∷ (‵ (flft κ₁ q₁) ⊛ ‵ (flft κ₂ q₂) ⊛ ‵ ftrue) ∷ ‵ ((MutSlice (named 0) κ₁ u64).own_val x₁ (s₁ ∷ [])) ∷ ‵ ((MutSlice (named 1) κ₂ u64).own_val x₂ (s₂ ∷ [])) ∷ []) ∵ suffices ! _ (comm∗ 𝓤 (P h ys₁ ys₂) (on_entry 𝓛 callee.signature to-callee.0.0 to-callee.0.1 to-callee.0.3 to-callee.0.4)) $ frame ! $ frame ! $
-      nothing ! $ owned ! u32 (Is u32) (uint_Makes 𝓛 w32) z _ (refl, z-fits) $ fjoin ! $ owned ! u64 (Is u64) (uint_Makes 𝓛 w64) v _ (refl, v-fits) $ fjoin ! $ owned ! K.the_row (Is K.the_row) ((LL.makes K.the_type K'.the_plain) 𝓛) k _ k-is $ fjoin ! $
+      qed 𝓛 (raw (P h ys₁ ys₂) ∷ (‵ (flft κ₁ q₁) ⊛ ‵ (flft κ₂ q₂) ⊛ ‵ ftrue) ∷ ‵ ((MutSlice (named 0) κ₁ u64).own_val x₁ (s₁ ∷ [])) ∷ ‵ ((MutSlice (named 1) κ₂ u64).own_val x₂ (s₂ ∷ [])) ∷ []) ∵ suffices ! _ (comm∗ 𝓤 (P h ys₁ ys₂) (on_entry 𝓛 callee.signature to_callee.0.0 to_callee.0.1 to_callee.0.3 to_callee.0.4)) $ frame ! $ frame ! $
+      nothing ! $ owned ! u32 (Is u32) (uint_Makes 𝓛 w32) z _ (refl, z_fits) $ fjoin ! $ owned ! u64 (Is u64) (uint_Makes 𝓛 w64) v _ (refl, v_fits) $ fjoin ! $ owned ! K.the_row (Is K.the_row) ((LL.makes K.the_type K'.the_plain) 𝓛) k _ k_is $ fjoin ! $
       move ! (2 ∷ 0 ∷ []) $ fjoin ! $ move ! (1 ∷ 0 ∷ []) $ fjoin ! $ owned ! T.the_row (Is T.the_row) ((LL.makes T.the_type T'.the_plain) 𝓛) h _ is $ fjoin ! $ done !
 
-  exits : (r : HeadInserted) (zs₁ zs₂ : List ℕ) → Q h ys₁ ys₂ k v z r.head r.answer zs₁ zs₂ → length zs₁ ≡ length ys₁ → length zs₂ ≡ length ys₂ → Is E.the_row r.answer (machE r.answer ∷ [])
-      → ent 𝓤 (⋆ 𝓛 (‵ (fobs γ ((T.the_row).coded.code r.head)) ∷ ‵ (fbor κ (Body (mem T.the_row) b o γ)) ∷ ‵ (flft κ q) ∷ (‵ (flft κ₁ q₁) ⊛ ‵ (flft κ₂ q₂) ⊛ ‵ ftrue) ∷ ‵ (finally u64 γ₂ zs₂) ∷ ‵ (finally u64 γ₁ zs₁) ∷ [])) (Post (machE r.answer))
+  exits : (r : HeadInserted) (zs₁ zs₂ : List ℕ) → Q h ys₁ ys₂ k v z r.head r.answer zs₁ zs₂ → length zs₁ ≡ length ys₁ → length zs₂ ≡ length ys₂ → Is E.the_row r.answer (mach_e r.answer ∷ [])
+      → ent 𝓤 (⋆ 𝓛 (‵ (fobs γ ((T.the_row).coded.code r.head)) ∷ ‵ (fbor κ (Body (mem T.the_row) b o γ)) ∷ ‵ (flft κ q) ∷ (‵ (flft κ₁ q₁) ⊛ ‵ (flft κ₂ q₂) ⊛ ‵ ftrue) ∷ ‵ (finally u64 γ₂ zs₂) ∷ ‵ (finally u64 γ₁ zs₁) ∷ [])) (Post (mach_e r.answer))
   exits r zs₁ zs₂ e l₁ l₂ is =
       qed 𝓛 (‵ (fobs γ ((T.the_row).coded.code r.head)) ∷ ‵ (fbor κ (Body (mem T.the_row) b o γ)) ∷ ‵ (flft κ q) ∷ (‵ (flft κ₁ q₁) ⊛ ‵ (flft κ₂ q₂) ⊛ ‵ ftrue) ∷ ‵ (finally u64 γ₂ zs₂) ∷ ‵ (finally u64 γ₁ zs₁) ∷ []) ∵
-      suffices ! _ (ends_at 𝓛 self.ended stayed (in_place 𝓤 P Q) (((κ, (κ₁, (κ₂, tt))), (q, (q₁, (q₂, tt))), bounds, a, vals), tt) (machE r.answer) r.answer (r.head, (zs₁, (zs₂, (tt, (tt, (tt, tt)))))) (tt, (l₁, (l₂, (tt, (tt, (tt, tt))))))) $
+      suffices ! _ (ends_at 𝓛 self.ended stayed (in_place 𝓤 P Q) (((κ, (κ₁, (κ₂, tt))), (q, (q₁, (q₂, tt))), bounds, a, vals), tt) (mach_e r.answer) r.answer (r.head, (zs₁, (zs₂, (tt, (tt, (tt, tt)))))) (tt, (l₁, (l₂, (tt, (tt, (tt, tt))))))) $
       says ! e $
       move ! (2 ∷ 3 ∷ []) $ join ! $ frame ! $ feq_i ! (List Val) (vptr b o ∷ []) (vptr b o ∷ []) refl $ fjoin3 ! $
       -- [what h owns; e's last list below s's]
-      nothing ! $ owned ! u32 (Is u32) (uint_Makes 𝓛 w32) z _ (refl, z-fits) $ fjoin ! $ owned ! u64 (Is u64) (uint_Makes 𝓛 w64) v _ (refl, v-fits) $ fjoin ! $ owned ! K.the_row (Is K.the_row) ((LL.makes K.the_type K'.the_plain) 𝓛) k _ k-is $ fjoin ! $
+      nothing ! $ owned ! u32 (Is u32) (uint_Makes 𝓛 w32) z _ (refl, z_fits) $ fjoin ! $ owned ! u64 (Is u64) (uint_Makes 𝓛 w64) v _ (refl, v_fits) $ fjoin ! $ owned ! K.the_row (Is K.the_row) ((LL.makes K.the_type K'.the_plain) 𝓛) k _ k_is $ fjoin ! $
       move ! (2 ∷ 0 ∷ []) $ fjoin ! $ move ! (2 ∷ 0 ∷ []) $ fjoin ! $ move ! (1 ∷ 0 ∷ []) $ fjoin ! $
       owned ! E.the_row (Is E.the_row) (EL.makes E.the_type E'.the_plain 𝓛) r.answer _ is $ move ! (1 ∷ 0 ∷ []) $ done !
 
   module _ (C : Calls 𝓤 H) (Λ : Loops 𝓤 H) (fm : FmC 𝓤 H 𝓛.laws C) (n : Name) (known : Triple 𝓤 (C n) (Stepped 𝓛 P Q)) where
-    walk : ent 𝓤 (sep 𝓤 (on_entry 𝓛 self.signature (κ, (κ₁, (κ₂, tt))) (q, (q₁, (q₂, tt))) a vals) (P h ys₁ ys₂)) (WpFn 𝓤 H C Λ (function n) (vptr b o ∷ s₁ ∷ s₂ ∷ machK k ∷ vint w64 v ∷ vint w32 z ∷ []) Post)
+    walk : ent 𝓤 (sep 𝓤 (on_entry 𝓛 self.signature (κ, (κ₁, (κ₂, tt))) (q, (q₁, (q₂, tt))) a vals) (P h ys₁ ys₂)) (WpFn 𝓤 H C Λ (function n) (vptr b o ∷ s₁ ∷ s₂ ∷ mach_k k ∷ vint w64 v ∷ vint w32 z ∷ []) Post)
     walk =
-        qed 𝓛 (((‵ (flft κ q) ⊛ ‵ (flft κ₁ q₁) ⊛ ‵ (flft κ₂ q₂) ⊛ ‵ ftrue) ⊛ ‵ (owns (MutRef (named 0) κ T.the_row ∷ MutSlice (named 1) κ₁ u64 ∷ MutSlice (named 2) κ₂ u64 ∷ K.the_row ∷ u64 ∷ u32 ∷ []) a vals)) ∷ raw (P h ys₁ ys₂) ∷ []) ∵ split ! $ enter ! C Λ (function n) (vptr b o ∷ s₁ ∷ s₂ ∷ machK k ∷ vint w64 v ∷ vint w32 z ∷ []) _ $
+        qed 𝓛 (((‵ (flft κ q) ⊛ ‵ (flft κ₁ q₁) ⊛ ‵ (flft κ₂ q₂) ⊛ ‵ ftrue) ⊛ ‵ (owns (MutRef (named 0) κ T.the_row ∷ MutSlice (named 1) κ₁ u64 ∷ MutSlice (named 2) κ₂ u64 ∷ K.the_row ∷ u64 ∷ u32 ∷ []) a vals)) ∷ raw (P h ys₁ ys₂) ∷ []) ∵ split ! $ enter ! C Λ (function n) (vptr b o ∷ s₁ ∷ s₂ ∷ mach_k k ∷ vint w64 v ∷ vint w32 z ∷ []) _ $
         alloc1 ! (λ l₀. alloc1 ! (λ l₁. alloc1 ! (λ l₂. alloc1 ! (λ l₃. alloc1 ! (λ l₄. alloc1 ! (λ l₅. alloc1 ! (λ l₆. alloc1 ! (λ l₇. alloc1 ! (λ l₈. alloc1 ! (λ l₉. alloc1 ! (λ l₁₀. alloc1 ! (λ l₁₁. alloc1 ! (λ l₁₂. alloc0 ! $ params1 ! $
         pass1 ! (init ! 22 refl (tt, tt)) $ pass1 ! (init ! 20 refl (tt, (tt, (record { fits = room₁.0 }, tt)))) $ pass1 ! (init ! 18 refl (tt, (tt, (record { fits = room₂.0 }, tt)))) $
-        pass1 ! (init ! 16 refl ((LL.lawful K.the_type K'.the_laws 𝓛).typed k _ k-is).0) $ pass1 ! (init ! 14 refl (tt, record { fits = v-fits })) $ pass1 ! (init ! 12 refl (tt, record { fits = z-fits })) $ pass0 ! $
+        pass1 ! (init ! 16 refl ((LL.lawful K.the_type K'.the_laws 𝓛).typed k _ k_is).0) $ pass1 ! (init ! 14 refl (tt, record { fits = v_fits })) $ pass1 ! (init ! 12 refl (tt, record { fits = z_fits })) $ pass0 ! $
         -- the borrow of the head is opened
         move ! (27 ∷ []) $ fsplit ! $ move ! (1 ∷ []) $ fsplit ! $ move ! (1 ∷ []) $ fsplit ! $ move ! (3 ∷ 2 ∷ 0 ∷ 1 ∷ []) $ fsplit3 ! $ drop ! $ move ! (31 ∷ []) $ split ! $ move ! (2 ∷ 3 ∷ 0 ∷ []) $
         opens ! tt T.the_row {h = h} b o (λ vs. spelt ! T.the_row (Is T.the_row) (shows 𝓛 T.the_row) (LL.vals T.the_type T'.the_laws) (LL.tells T.the_type T'.the_laws) full_share h vs b o $
-        move ! (1 ∷ []) $ peeks ! T.the_row (Is T.the_row) (shows 𝓛 T.the_row) h (machT h ∷ []) (λ is. move ! (1 ∷ 0 ∷ []) $
+        move ! (1 ∷ []) $ peeks ! T.the_row (Is T.the_row) (shows 𝓛 T.the_row) h (mach_t h ∷ []) (λ is. move ! (1 ∷ 0 ∷ []) $
         -- [the head's cell; what a Head owns; the open borrow; obs; auth; the slices' tokens; what e owns; what s owns; what k, t and z own; _12; …; _11; …; .. ; _1; …; room for _0; …]
         assigns ! (of_opd ! (load ! (from ! (hop ! (look ! 31 refl) (stop !))) (look_raw ! 0 refl))) (from ! (stop !)) (init ! 17 refl ((LL.lawful T.the_type T'.the_laws 𝓛).typed h _ is).0) $
         assigns ! (addr ! (from ! (fld ! refl (hop ! (look_in ! 29 (sub ! 0 refl (whole !))) (stop !))))) (from ! (stop !)) (init ! 15 refl (tt, tt)) $
@@ -180,8 +180,8 @@ module _ {M : Type 1} {𝓤 : Ura M} (𝓛 : Logic 𝓤) (P : Asks 𝓤) (Q : Do
         assigns ! (addr ! (from ! (fld ! refl (hop ! (look_in ! 27 (sub ! 0 refl (whole !))) (stop !))))) (from ! (stop !)) (init ! 11 refl (tt, tt)) $
         assigns ! (agg ! (and_then ! (load ! (from ! (stop !)) (look ! 11 refl)) (and_then ! (load ! (from ! (fld ! refl (stop !))) (look_in ! 27 (sub ! 1 refl (whole !)))) (no_more !)))) (from ! (stop !)) (init ! 9 refl (tt, (tt, (record { fits = room₂.0 }, tt)))) $
         -- the call: the slices are given up for good
-        move ! (35 ∷ 5 ∷ 6 ∷ 7 ∷ []) $ group ! 4 $ use1 𝓛 (raw ((Stepped 𝓛 P Q).pre to-callee)) (goes is) $
-        calls_at ! fm (Stepped 𝓛 P Q) known to-callee (and_then ! (load ! (from ! (stop !)) (look ! 15 refl)) (and_then ! (load ! (from ! (stop !)) (look ! 11 refl)) (and_then ! (load ! (from ! (stop !)) (look ! 7 refl)) (and_then ! (load ! (from ! (stop !)) (look ! 23 refl)) (and_then ! (load ! (from ! (stop !)) (look ! 21 refl)) (and_then ! (load ! (from ! (stop !)) (look ! 19 refl)) (no_more !))))))) (λ w.
+        move ! (35 ∷ 5 ∷ 6 ∷ 7 ∷ []) $ group ! 4 $ use1 𝓛 (raw ((Stepped 𝓛 P Q).pre to_callee)) (goes is) $
+        calls_at ! fm (Stepped 𝓛 P Q) known to_callee (and_then ! (load ! (from ! (stop !)) (look ! 15 refl)) (and_then ! (load ! (from ! (stop !)) (look ! 11 refl)) (and_then ! (load ! (from ! (stop !)) (look ! 7 refl)) (and_then ! (load ! (from ! (stop !)) (look ! 23 refl)) (and_then ! (load ! (from ! (stop !)) (look ! 21 refl)) (and_then ! (load ! (from ! (stop !)) (look ! 19 refl)) (no_more !))))))) (λ w.
         use1 𝓛 (later (some (λ (r : HeadInserted). ((‵ (flft κ₁ q₁) ⊛ ‵ (flft κ₂ q₂) ⊛ ‵ ftrue) ⊛ ‵ ((N.the_row).own_val r (w ∷ []))) ⊛ raw (ensured 𝓛 callee.ended (by_value 𝓤 P Q) (κ₁, (κ₂, tt)) args tt r)))) (id⊢ 𝓤 _) $ await ! tt $ pick ! (λ r.
         split ! $ move ! (1 ∷ []) $ use1 𝓛 (some (λ (zs : Unit {0} × (List ℕ × (List ℕ × (Unit {0} × (Unit {0} × (Unit {0} × Unit {0})))))). ‵ (lasts callee.ended (κ₁, (κ₂, tt)) args zs) ⊛ raw (fact 𝓤 (Q h ys₁ ys₂ k v z r.head r.answer zs.1.0 zs.1.1.0)))) (id⊢ 𝓤 _) $ pick ! (λ zs.
         split ! $ move ! (1 ∷ []) $ heard ! (Q h ys₁ ys₂ k v z r.head r.answer zs.1.0 zs.1.1.0) (λ e. fsplit ! $ move ! (1 ∷ []) $ fsplit ! $ fsplit ! $ move ! (1 ∷ []) $ feq_l ! (λ e₁. move ! (1 ∷ []) $ fsplit ! $ fsplit ! $ move ! (1 ∷ []) $ feq_l ! (λ e₂.
@@ -190,12 +190,12 @@ module _ {M : Type 1} {𝓤 : Ura M} (𝓛 : Logic 𝓤) (P : Asks 𝓤) (Q : Do
         land ! (from ! (stop !)) (init ! 22 refl ((LL.lawful N.the_type N'.the_laws 𝓛).typed r _ has).0) $
         rewrite ! 22 (λ (u : Val). ‵ (fat full_share N'.mir l₇ 0 u)) (ap only (LL.tells N.the_type N'.the_laws r (w ∷ []) has)) refl $
         rewrite ! 0 (λ (us : List Val). ‵ ((N.the_row).own_val r us)) (LL.tells N.the_type N'.the_laws r (w ∷ []) has) refl $
-        peeks ! N.the_row (Is N.the_row) (shows 𝓛 N.the_row) r (machN r ∷ []) (λ now.
+        peeks ! N.the_row (Is N.the_row) (shows 𝓛 N.the_row) r (mach_n r ∷ []) (λ now.
         -- [what the answer owns; the slices' tokens; s's last list; …; e's last list; …; the head's cell; what a Head owned; the open borrow; obs; auth; …; _12; …; .. ; room for _0; …]
         assigns ! (of_opd ! (load ! (from ! (fld ! refl (stop !))) (look_in ! 22 (sub ! 0 refl (whole !))))) (from ! (hop ! (look ! 34 refl) (stop !))) (store_raw ! 6 refl ((LL.lawful T.the_type T'.the_laws 𝓛).typed r.head _ (LL.owed N.the_type N'.the_laws r _ now).0).0) $
         assigns ! (of_opd ! (load ! (from ! (fld ! refl (stop !))) (look_in ! 22 (sub ! 1 refl (whole !))))) (from ! (stop !)) (init ! 36 refl ((EL.lawful E.the_type E'.the_laws 𝓛 tt).typed r.answer _ (LL.owed N.the_type N'.the_laws r _ now).1.0).0) $
         -- the borrow is closed at the new head
-        owned ! T.the_row (Is T.the_row) ((LL.makes T.the_type T'.the_plain) 𝓛) r.head _ (LL.owed N.the_type N'.the_laws r _ now).0 $ move ! (7 ∷ 0 ∷ 9 ∷ 10 ∷ 11 ∷ []) $ closes ! tt T.the_row r.head (machT r.head ∷ []) b o $
+        owned ! T.the_row (Is T.the_row) ((LL.makes T.the_type T'.the_plain) 𝓛) r.head _ (LL.owed N.the_type N'.the_laws r _ now).0 $ move ! (7 ∷ 0 ∷ 9 ∷ 10 ∷ 11 ∷ []) $ closes ! tt T.the_row r.head (mach_t r.head ∷ []) b o $
         -- [obs; the borrow; its token; what the answer owns; the slices' tokens; s's last list; …; e's last list; …; …; …; _12; …]
         returns ! (look ! 35 refl) $ forget ! 11 refl $ forget ! 13 refl $ forget ! 15 refl $ forget ! 17 refl $ forget ! 19 refl $ forget ! 21 refl $ forget ! 23 refl $ forget ! 25 refl $ forget ! 27 refl $ forget ! 29 refl $ forget ! 31 refl $ forget ! 33 refl $ forget ! 35 refl $
         move ! (35 ∷ 36 ∷ []) $ free1 ! $ move ! (33 ∷ 34 ∷ []) $ free1 ! $ move ! (31 ∷ 32 ∷ []) $ free1 ! $ move ! (29 ∷ 30 ∷ []) $ free1 ! $ move ! (27 ∷ 28 ∷ []) $ free1 ! $ move ! (25 ∷ 26 ∷ []) $ free1 ! $ move ! (23 ∷ 24 ∷ []) $ free1 ! $ move ! (21 ∷ 22 ∷ []) $ free1 ! $ move ! (19 ∷ 20 ∷ []) $ free1 ! $ move ! (17 ∷ 18 ∷ []) $ free1 ! $ move ! (15 ∷ 16 ∷ []) $ free1 ! $ move ! (13 ∷ 14 ∷ []) $ free1 ! $ move ! (11 ∷ 12 ∷ []) $ free1 ! $ free0 ! $
@@ -204,8 +204,8 @@ module _ {M : Type 1} {𝓤 : Ura M} (𝓛 : Logic 𝓤) (P : Asks 𝓤) (Q : Do
 module _ {M : Type 1} {𝓤 : Ura M} (𝓛 : Logic 𝓤) (P : Asks 𝓤) (Q : Does) where
   open 𝓛 use {H}
 
-  self-walks : (C : Calls 𝓤 H) (Λ : Loops 𝓤 H) → FmC 𝓤 H 𝓛.laws C → (n : Name) → Triple 𝓤 (C n) (Stepped 𝓛 P Q) → Walks 𝓛 self.ended stayed (WpFn 𝓤 H C Λ (function n)) (in_place 𝓤 P Q)
-  self-walks C Λ fm n known = walked 𝓛 self.ended stayed (in_place 𝓤 P Q) (WpFn 𝓤 H C Λ (function n)) (λ κs. (mut_vals, (mut_slice_vals, (mut_slice_vals, (LL.vals K.the_type K'.the_laws, (uint_vals w64, (uint_vals w32, tt))))))) (λ κs. (mut_Tells (named 0) κs.0 T.the_row, (mut_slice_Tells (named 1) κs.1.0 u64, (mut_slice_Tells (named 2) κs.1.1.0 u64, (LL.tells K.the_type K'.the_laws, (uint_Tells w64, (uint_Tells w32, tt)))))))
+  self_walks : (C : Calls 𝓤 H) (Λ : Loops 𝓤 H) → FmC 𝓤 H 𝓛.laws C → (n : Name) → Triple 𝓤 (C n) (Stepped 𝓛 P Q) → Walks 𝓛 self.ended stayed (WpFn 𝓤 H C Λ (function n)) (in_place 𝓤 P Q)
+  self_walks C Λ fm n known = walked 𝓛 self.ended stayed (in_place 𝓤 P Q) (WpFn 𝓤 H C Λ (function n)) (λ κs. (mut_vals, (mut_slice_vals, (mut_slice_vals, (LL.vals K.the_type K'.the_laws, (uint_vals w64, (uint_vals w32, tt))))))) (λ κs. (mut_Tells (named 0) κs.0 T.the_row, (mut_slice_Tells (named 1) κs.1.0 u64, (mut_slice_Tells (named 2) κs.1.1.0 u64, (LL.tells K.the_type K'.the_laws, (uint_Tells w64, (uint_Tells w32, tt)))))))
       (λ κs qs bounds a g are.
       walk 𝓛 P Q κs.0 κs.1.0 κs.1.1.0 bounds qs.0 qs.1.0 qs.1.1.0 a.0.ref_ptr.0 a.0.ref_ptr.1 a.0.ghost_name a.0.now a.1.0.ref_ptr.0 a.1.0.ref_ptr.1 a.1.0.ghost_name a.1.0.now a.1.1.0.ref_ptr.0 a.1.1.0.ref_ptr.1 a.1.1.0.ghost_name a.1.1.0.now
       a.1.1.1.0 a.1.1.1.1.0 a.1.1.1.1.1.0 are.1.1.1.1.0.1 are.1.1.1.1.1.0.1 are.1.0.0.1 are.1.1.0.0.1 are.1.1.1.0 C Λ fm n known)
@@ -218,4 +218,4 @@ module _ {M : Type 1} {𝓤 : Ura M} (𝓛 : Logic 𝓤) (P : Asks 𝓤) (Q : Do
   meets E says 𝓣 n known =
       weaken 𝓛 self.ended (in_place 𝓤 P Q) E (λ κs a g r ws. says κs a g r (at_exit self.ended κs a ws)) (WpFn 𝓤 H 𝓣.C 𝓣.Λ (function n)) (WpFn-mono 𝓤 H 𝓛.laws 𝓣 (function n))
       (walk_Meets 𝓛 self.ended stayed (Goes-ref 𝓛 3 0 tt (plain (λ _. T.the_row)), (Goes-gave_slice 𝓛 3 1 tt (plain (λ _. u64)), (Goes-gave_slice 𝓛 3 2 tt (plain (λ _. u64)), (Goes-none 𝓛 3 (λ _. K.the_row) yes (λ κs x f. refl), (Goes-none 𝓛 3 (λ _. u64) yes (λ κs x f. refl), (Goes-none 𝓛 3 (λ _. u32) yes (λ κs x f. refl), tt)))))) (in_place 𝓤 P Q)
-      (WpFn 𝓤 H 𝓣.C 𝓣.Λ (function n)) (WpFn-mono 𝓤 H 𝓛.laws 𝓣 (function n)) (self-walks 𝓣.C 𝓣.Λ (fm_of 𝓤 H 𝓛.laws 𝓣) n known))
+      (WpFn 𝓤 H 𝓣.C 𝓣.Λ (function n)) (WpFn-mono 𝓤 H 𝓛.laws 𝓣 (function n)) (self_walks 𝓣.C 𝓣.Λ (fm_of 𝓤 H 𝓛.laws 𝓣) n known))

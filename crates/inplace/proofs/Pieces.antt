@@ -30,5 +30,5 @@ abbrev pub part_of : ℕ → ℕ → Opd
 part_of i f = copy (place i (field f ∷ []))
 
 -- the table in local i is lent on: its pointer goes to local j, pointer and length to local k
-abbrev pub lends-on : (i j k : ℕ) → Body → Body
-lends-on i j k rest = seq (assign (place j []) (addr_of (place i (field 0 ∷ deref (ty_int w64) ∷ [])))) (seq (assign (place k []) (aggregate (whole_of j ∷ part_of i 1 ∷ []))) rest)
+abbrev pub lends_on : (i j k : ℕ) → Body → Body
+lends_on i j k rest = seq (assign (place j []) (addr_of (place i (field 0 ∷ deref (ty_int w64) ∷ [])))) (seq (assign (place k []) (aggregate (whole_of j ∷ part_of i 1 ∷ []))) rest)

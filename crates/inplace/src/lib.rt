@@ -4,7 +4,7 @@ pub mod at_door;
 ghost use Rattle.std.specs.Prelude.{◌≡◌, []};
 ghost use Rattle.rules.specs.Tables.{state_of};
 ghost use Rattle.rules.specs.Calls.{Ready, step, insert, remove};
-ghost use Rattle.rules.specs.Answers.{leaves, saidInserted, saidRemoved};
+ghost use Rattle.rules.specs.Answers.{leaves, said_inserted, said_removed};
 
 use rules::{Head, Inserted, Key, Removed};
 
@@ -25,7 +25,7 @@ pub fn insert_in_place(
     size: u32,
 ) -> Inserted
     requires { Ready (state_of head.old elems.old shared.old) }
-    ensures { leaves head.new elems.new shared.new [] (saidInserted result) ≡ step (state_of head.old elems.old shared.old) [] (insert at payload size) }
+    ensures { leaves head.new elems.new shared.new [] (said_inserted result) ≡ step (state_of head.old elems.old shared.old) [] (insert at payload size) }
 {
     let r = inserts::insert(*head, elems, shared, at, payload, size);
     *head = r.head;
@@ -35,7 +35,7 @@ pub fn insert_in_place(
 // Rules 7, remove.
 pub fn remove_in_place(head: &mut Head, elems: &mut [u64], shared: &mut [u64], key: Key) -> TakenOut
     requires { Ready (state_of head.old elems.old shared.old) }
-    ensures { leaves head.new elems.new shared.new [] (saidRemoved result.answer result.over) ≡ step (state_of head.old elems.old shared.old) [] (remove key) }
+    ensures { leaves head.new elems.new shared.new [] (said_removed result.answer result.over) ≡ step (state_of head.old elems.old shared.old) [] (remove key) }
 {
     let taken = removes::remove_element(*head, elems, shared, key);
     *head = taken.head;

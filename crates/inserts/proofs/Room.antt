@@ -6,8 +6,8 @@ use native.Mathlib.Omega.{arith}
 use native.Mathlib.Decide.{ℕ_discrete}
 use borrow.Author.Tests.{eq-eqb, ne_eqb, eqb-false}
 use Rattle.rules.specs.declared.Pool.{Pool}
-use Rattle.rules.specs.Slots.{slot_of, isFull}
-use Rattle.rules.proofs.laws.Safe.{Pooled}
+use Rattle.rules.specs.Slots.{slot_of, is_full}
+use Rattle.rules.proofs.Laws.Safe.{Pooled}
 use Rattle.inserts.specs.Asked.{HasRoom}
 
 -- the slot that a pool with room gives stands within its capacity
@@ -25,7 +25,7 @@ module _ (p : Pool) where
   slot-root n = simp (ne_eqb _ _ n)
 
   room : HasRoom p → p.root ≡ 0 → p.extent ≢ p.capacity
-  unfolding isFull
+  unfolding is_full
   room f z = eqb-false _ _ (simp (eq-eqb _ _ z) at f)
 
   pub given : Pooled p → HasRoom p → Given p (slot_of p)

@@ -1,10 +1,10 @@
 // New run and insert (Rules 4 and 5) at the inner door: each equal to its rule, on a ready state.
 // Ported from insert_surject_within_capacity and insert_within_capacity of surject_arena.rs (triple_arena 0.15.1, NOTICE).
 ghost use Rattle.std.specs.Prelude.{◌≡◌, [], ◌≤◌};
-ghost use Rattle.rules.specs.Tables.{mostBytes, state_of};
+ghost use Rattle.rules.specs.Tables.{most_bytes, state_of};
 ghost use Rattle.rules.specs.Runs.{begun, inserted};
-ghost use Rattle.rules.specs.Calls.{Ready, step, newRun, insert};
-ghost use Rattle.rules.specs.Answers.{afterInserted};
+ghost use Rattle.rules.specs.Calls.{Ready, step, new_run, insert};
+ghost use Rattle.rules.specs.Answers.{after_inserted};
 ghost use Rattle.slots.specs.Asked.{OnLive};
 ghost use Rattle.inserts.specs.Asked.{HasRoom, RoomFor};
 
@@ -43,7 +43,7 @@ pub fn insert_surject(
     size: u32,
 ) -> HeadInserted
     requires { Ready (state_of head elems.old shared.old) }
-    ensures { afterInserted result elems.new shared.new [] ≡ step (state_of head elems.old shared.old) [] (newRun payload value size) }
+    ensures { after_inserted result elems.new shared.new [] ≡ step (state_of head elems.old shared.old) [] (new_run payload value size) }
 {
     let frames = head.elems;
     let headers = head.shared;
@@ -79,7 +79,7 @@ fn insert_at(
     payload: u64,
     size: u64,
 ) -> Head
-    requires { OnLive (state_of head elems.old shared.old) x × HasRoom head.elems × (size ≤ mostBytes) }
+    requires { OnLive (state_of head elems.old shared.old) x × HasRoom head.elems × (size ≤ most_bytes) }
     ensures { state_of result elems.new shared.new ≡ inserted (state_of head elems.old shared.old) x payload size }
 {
     let frames = head.elems;
@@ -102,7 +102,7 @@ pub fn insert(
     size: u32,
 ) -> HeadInserted
     requires { Ready (state_of head elems.old shared.old) }
-    ensures { afterInserted result elems.new shared.new [] ≡ step (state_of head elems.old shared.old) [] (insert at payload size) }
+    ensures { after_inserted result elems.new shared.new [] ≡ step (state_of head elems.old shared.old) [] (insert at payload size) }
 {
     let x = match slots::find(head, elems, at) {
         Found::Live(x) => x,

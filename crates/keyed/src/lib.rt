@@ -1,7 +1,7 @@
 // Keys that the door says or writes, held to the frames that the Rust named. A key is kept for each frame as it is given:
 // 256 slots, then 256 generations.
 ghost use Rattle.std.specs.Prelude.{ℕ, ◌≤◌, ◌≡◌};
-ghost use Rattle.sample.specs.Sample.{answerAt, key_of, JoinsAs, JoinedAs, KeyAt, RingOf, ListsAs, ListedAs, DrainsAs, DrainedAs, OnlyIf};
+ghost use Rattle.sample.specs.Sample.{answer_at, key_of, JoinsAs, JoinedAs, KeyAt, RingOf, ListsAs, ListedAs, DrainsAs, DrainedAs, OnlyIf};
 
 use rules::{Joined, Key, Number};
 use sample::{COUNT, FIRST, REFUSED, is_answer, is_refused, number};
@@ -25,7 +25,7 @@ pub fn key(given: &[u64; 512], frame: u8) -> Key
 
 // A key that was written is that of the answer's frame.
 fn is_key(i: usize, at: usize, written: &[u64], given: &[u64; 512], sample: &[u8; 32]) -> bool
-    ensures { OnlyIf (KeyAt written.now at (key_of given.now (answerAt sample.now i))) result }
+    ensures { OnlyIf (KeyAt written.now at (key_of given.now (answer_at sample.now i))) result }
 {
     if 21 <= i {
         return false;

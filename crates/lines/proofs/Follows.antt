@@ -9,14 +9,14 @@ use lib.ListN.{length, take, drop, length-append}
 use lib.Seq.{sets-eq, take_all, take_at, take-nil, drop-length, length-take-le, append_snoc}
 use Rattle.rules.specs.Notation.{if◌then◌else◌, ◌==◌}
 use Rattle.rules.specs.Tables.{State}
-use Rattle.rules.specs.Script.{lineMost, newline, prepend, pieces, Reply, lineReply, withoutEmptyLast, replies, output}
+use Rattle.rules.specs.Script.{line_most, newline, prepend, pieces, Reply, line_reply, without_empty_last, replies, output}
 use Rattle.words.specs.Words.{onto}
 use Rattle.words.proofs.Pieces.{onto-nothing, pieces-some}
 use Rattle.words.proofs.Letters.{line-long}
 use Rattle.told.specs.Put.{Put}
 use Rattle.lines.specs.declared.stream.Gathered.{Gathered}
-use Rattle.lines.specs.Obeys.{withNewline, ObeysLine}
-use Rattle.lines.specs.Stream.{Holds, Gathers, reached, freshState, Follows}
+use Rattle.lines.specs.Obeys.{with_newline, ObeysLine}
+use Rattle.lines.specs.Stream.{Holds, Gathers, reached, fresh_state, Follows}
 use Rattle.lines.proofs.Gathering.{all_held}
 
 -- ---- pieces of two texts: the last of the one and the first of the other are one
@@ -26,29 +26,29 @@ glue [] qs = qs
 glue (p ∷ []) qs = onto p qs
 glue (p ∷ p' ∷ ps) qs = p ∷ glue (p' ∷ ps) qs
 
-glue-last : (ls : List (List ℕ)) (p : List ℕ) (qs : List (List ℕ)) → glue (ls ++ p ∷ []) qs ≡ ls ++ onto p qs
+glue_last : (ls : List (List ℕ)) (p : List ℕ) (qs : List (List ℕ)) → glue (ls ++ p ∷ []) qs ≡ ls ++ onto p qs
 unfolding glue
-glue-last [] p qs = refl
-glue-last (l ∷ []) p qs = refl
-glue-last (l ∷ l' ∷ ls) p qs = ap (λ (r : List (List ℕ)). l ∷ r) (glue-last (l' ∷ ls) p qs)
+glue_last [] p qs = refl
+glue_last (l ∷ []) p qs = refl
+glue_last (l ∷ l' ∷ ls) p qs = ap (λ (r : List (List ℕ)). l ∷ r) (glue_last (l' ∷ ls) p qs)
 
-onto-front : (b : ℕ) (p : List ℕ) (qs : List (List ℕ)) → onto (b ∷ p) qs ≡ prepend b (onto p qs)
-onto-front b p [] = refl
-onto-front b p (q ∷ qs) = refl
+onto_front : (b : ℕ) (p : List ℕ) (qs : List (List ℕ)) → onto (b ∷ p) qs ≡ prepend b (onto p qs)
+onto_front b p [] = refl
+onto_front b p (q ∷ qs) = refl
 
-glue-prepend : (b : ℕ) (p : List ℕ) (ps qs : List (List ℕ)) → glue (prepend b (p ∷ ps)) qs ≡ prepend b (glue (p ∷ ps) qs)
+glue_prepend : (b : ℕ) (p : List ℕ) (ps qs : List (List ℕ)) → glue (prepend b (p ∷ ps)) qs ≡ prepend b (glue (p ∷ ps) qs)
 unfolding glue
-glue-prepend b p [] qs = onto-front b p qs
-glue-prepend b p (p' ∷ ps) qs = refl
+glue_prepend b p [] qs = onto_front b p qs
+glue_prepend b p (p' ∷ ps) qs = refl
 
-glue-front : (p : List ℕ) (ps qs : List (List ℕ)) → glue ([] ∷ p ∷ ps) qs ≡ [] ∷ glue (p ∷ ps) qs
+glue_front : (p : List ℕ) (ps qs : List (List ℕ)) → glue ([] ∷ p ∷ ps) qs ≡ [] ∷ glue (p ∷ ps) qs
 unfolding glue
-glue-front p ps qs = refl
+glue_front p ps qs = refl
 
-pieces-append : (separator : ℕ) (xs ys : List ℕ) → pieces separator (xs ++ ys) ≡ glue (pieces separator xs) (pieces separator ys)
+pieces_append : (separator : ℕ) (xs ys : List ℕ) → pieces separator (xs ++ ys) ≡ glue (pieces separator xs) (pieces separator ys)
 unfolding pieces glue
-pieces-append separator [] ys = sym (onto-nothing separator ys)
-pieces-append separator (b ∷ bs) ys = go (b == separator) (pieces-append separator bs ys)
+pieces_append separator [] ys = sym (onto-nothing separator ys)
+pieces_append separator (b ∷ bs) ys = go (b == separator) (pieces_append separator bs ys)
   where
     w : (p : List ℕ) × (ps : List (List ℕ)) × (pieces separator bs ≡ p ∷ ps)
     w = pieces-some separator bs
@@ -56,32 +56,32 @@ pieces-append separator (b ∷ bs) ys = go (b == separator) (pieces-append separ
     go : (t : Bool) → pieces separator (bs ++ ys) ≡ glue (pieces separator bs) (pieces separator ys)
         → (if t then [] ∷ pieces separator (bs ++ ys) else prepend b (pieces separator (bs ++ ys)))
         ≡ glue (if t then [] ∷ pieces separator bs else prepend b (pieces separator bs)) (pieces separator ys)
-    go true ih = ap (λ (r : List (List ℕ)). [] ∷ r) ih ∙ rw w.2 (sym (glue-front w.0 w.1 (pieces separator ys)))
-    go false ih = ap (prepend b) ih ∙ rw w.2 (sym (glue-prepend b w.0 w.1 (pieces separator ys)))
+    go true ih = ap (λ (r : List (List ℕ)). [] ∷ r) ih ∙ rw w.2 (sym (glue_front w.0 w.1 (pieces separator ys)))
+    go false ih = ap (prepend b) ih ∙ rw w.2 (sym (glue_prepend b w.0 w.1 (pieces separator ys)))
 
 -- ---- a line more
 
-reached-more : (st : State) (ls : List (List ℕ)) (l : List ℕ) → reached st (ls ++ l ∷ []) ≡ (lineReply (reached st ls) l).state
+reached_more : (st : State) (ls : List (List ℕ)) (l : List ℕ) → reached st (ls ++ l ∷ []) ≡ (line_reply (reached st ls) l).state
 unfolding reached
-reached-more st [] l = refl
-reached-more st (k ∷ ls) l = reached-more (lineReply st k).state ls l
+reached_more st [] l = refl
+reached_more st (k ∷ ls) l = reached_more (line_reply st k).state ls l
 
-replies-more : (st : State) (ls : List (List ℕ)) (l : List ℕ) → replies st (ls ++ l ∷ []) ≡ replies st ls ++ withNewline (lineReply (reached st ls) l)
+replies_more : (st : State) (ls : List (List ℕ)) (l : List ℕ) → replies st (ls ++ l ∷ []) ≡ replies st ls ++ with_newline (line_reply (reached st ls) l)
 unfolding reached replies
-replies-more st [] l = refl
-replies-more st (k ∷ ls) l =
-    ap (λ (r : List ℕ). (lineReply st k).printed ++ newline ∷ r) (replies-more (lineReply st k).state ls l)
-    ∙ sym (append_assoc (lineReply st k).printed (newline ∷ replies (lineReply st k).state ls) (withNewline (lineReply (reached (lineReply st k).state ls) l)))
+replies_more st [] l = refl
+replies_more st (k ∷ ls) l =
+    ap (λ (r : List ℕ). (line_reply st k).printed ++ newline ∷ r) (replies_more (line_reply st k).state ls l)
+    ∙ sym (append_assoc (line_reply st k).printed (newline ∷ replies (line_reply st k).state ls) (with_newline (line_reply (reached (line_reply st k).state ls) l)))
 
 -- a line cut past the most bytes of a line is refused as the whole line is
-line-cut : (st : State) (n : ℕ) (l : List ℕ) → lineMost < n → lineReply st (take n l) ≡ lineReply st l
+line-cut : (st : State) (n : ℕ) (l : List ℕ) → line_most < n → line_reply st (take n l) ≡ line_reply st l
 line-cut st n l h = go (dec_lt n (length l))
   where
-    go : Dec (n < length l) → lineReply st (take n l) ≡ lineReply st l
+    go : Dec (n < length l) → line_reply st (take n l) ≡ line_reply st l
     go (yes m) =
         let e : length (take n l) ≡ n = length-take-le n l (omega arith) in
         line-long st (take n l) (omega arith) ∙ sym (line-long st l (omega arith))
-    go (no m) = ap (lineReply st) (take_all n l (omega arith))
+    go (no m) = ap (line_reply st) (take_all n l (omega arith))
 
 put-take : (before after bytes : List ℕ) (at next : ℕ) → Put before at bytes after next → next ≤ length before → take next after ≡ take at before ++ bytes
 put-take before after bytes at next p h =
@@ -94,16 +94,16 @@ put-take before after bytes at next p h =
 -- ---- what follows
 
 -- a block comes
-pub follows-block : {past block : List ℕ} {st : State} {out : List ℕ} {fill : ℕ} {line : List ℕ} {held : ℕ} {gone : List ℕ}
+pub follows_block : {past block : List ℕ} {st : State} {out : List ℕ} {fill : ℕ} {line : List ℕ} {held : ℕ} {gone : List ℕ}
     → Follows past [] st out fill line held gone → Follows (past ++ block) block st out fill line held gone
 unfolding pieces
-follows-block {past} {block} f =
+follows_block {past} {block} f =
     record {
       lines = f.lines;
       begun = f.begun;
-      whole = pieces-append newline past block
+      whole = pieces_append newline past block
           ∙ ap (λ (ps : List (List ℕ)). glue ps (pieces newline block)) (f.whole ∙ ap (λ (p : List ℕ). f.lines ++ p ∷ []) (append-nil f.begun))
-          ∙ glue-last f.lines f.begun (pieces newline block);
+          ∙ glue_last f.lines f.begun (pieces newline block);
       state = f.state;
       printed = f.printed;
       holds = f.holds;
@@ -115,11 +115,11 @@ pub follows-room : {input left : List ℕ} {st : State} {out : List ℕ} {fill a
 follows-room f e = record { lines = f.lines; begun = f.begun; whole = f.whole; state = f.state; printed = e ∙ f.printed; holds = f.holds }
 
 -- a part of a line is gathered
-pub follows-part : {input block : List ℕ} {at : ℕ} {st : State} {out : List ℕ} {fill : ℕ} {line after : List ℕ} {held : ℕ} {gone : List ℕ} {r : Gathered}
+pub follows_part : {input block : List ℕ} {at : ℕ} {st : State} {out : List ℕ} {fill : ℕ} {line after : List ℕ} {held : ℕ} {gone : List ℕ} {r : Gathered}
     → Follows input (drop at block) st out fill line held gone → Gathers block at line held after r → r.whole ≡ false
     → Follows input (drop r.next block) st out fill after r.held gone
 unfolding pieces
-follows-part {block = block} {r = r} f g e =
+follows_part {block = block} {r = r} f g e =
     record {
       lines = f.lines;
       begun = f.begun ++ g.piece;
@@ -131,26 +131,26 @@ follows-part {block = block} {r = r} f g e =
 
 -- a line is obeyed, whose bytes are held
 module _ (st : State) (lines : List (List ℕ)) (bytes gone : List ℕ) (out : List ℕ) (fill : ℕ) (line : List ℕ) (held : ℕ)
-    (state : st ≡ reached freshState lines) (printed : gone ++ take fill out ≡ replies freshState lines) (holds : Holds line held bytes) (long : lineMost < length line)
-    (st' : State) (after : List ℕ) (next : ℕ) (o : ObeysLine (lineReply st (take held line)) st' out fill after next) (room : next ≤ length out) where
-  reply : lineReply st (take held line) ≡ lineReply (reached freshState lines) bytes
-  reply = ap (lineReply st) holds.same ∙ line-cut st (length line) bytes long ∙ ap (λ (s : State). lineReply s bytes) state
+    (state : st ≡ reached fresh_state lines) (printed : gone ++ take fill out ≡ replies fresh_state lines) (holds : Holds line held bytes) (long : line_most < length line)
+    (st' : State) (after : List ℕ) (next : ℕ) (o : ObeysLine (line_reply st (take held line)) st' out fill after next) (room : next ≤ length out) where
+  reply : line_reply st (take held line) ≡ line_reply (reached fresh_state lines) bytes
+  reply = ap (line_reply st) holds.same ∙ line-cut st (length line) bytes long ∙ ap (λ (s : State). line_reply s bytes) state
 
-  state-then : st' ≡ reached freshState (lines ++ bytes ∷ [])
-  state-then = o.same ∙ ap (λ (r : Reply). r.state) reply ∙ sym (reached-more freshState lines bytes)
+  state_then : st' ≡ reached fresh_state (lines ++ bytes ∷ [])
+  state_then = o.same ∙ ap (λ (r : Reply). r.state) reply ∙ sym (reached_more fresh_state lines bytes)
 
-  printed-then : gone ++ take next after ≡ replies freshState (lines ++ bytes ∷ [])
-  printed-then =
-      ap (λ (xs : List ℕ). gone ++ xs) (put-take out after (withNewline (lineReply st (take held line))) fill next o.put room)
-      ∙ sym (append_assoc gone (take fill out) (withNewline (lineReply st (take held line))))
-      ∙ ap (λ (xs : List ℕ). xs ++ withNewline (lineReply st (take held line))) printed
-      ∙ ap (λ (r : Reply). replies freshState lines ++ withNewline r) reply
-      ∙ sym (replies-more freshState lines bytes)
+  printed_then : gone ++ take next after ≡ replies fresh_state (lines ++ bytes ∷ [])
+  printed_then =
+      ap (λ (xs : List ℕ). gone ++ xs) (put-take out after (with_newline (line_reply st (take held line))) fill next o.put room)
+      ∙ sym (append_assoc gone (take fill out) (with_newline (line_reply st (take held line))))
+      ∙ ap (λ (xs : List ℕ). xs ++ with_newline (line_reply st (take held line))) printed
+      ∙ ap (λ (r : Reply). replies fresh_state lines ++ with_newline r) reply
+      ∙ sym (replies_more fresh_state lines bytes)
 
 -- a whole line is gathered and obeyed: what is left begins a new one
 pub follows-line : {input block : List ℕ} {at : ℕ} {st st' : State} {out out' : List ℕ} {fill next : ℕ} {line after : List ℕ} {held : ℕ} {gone : List ℕ} {r : Gathered}
-    → Follows input (drop at block) st out fill line held gone → Gathers block at line held after r → r.whole ≡ true → lineMost < length after
-    → ObeysLine (lineReply st (take r.held after)) st' out fill out' next → next ≤ length out
+    → Follows input (drop at block) st out fill line held gone → Gathers block at line held after r → r.whole ≡ true → line_most < length after
+    → ObeysLine (line_reply st (take r.held after)) st' out fill out' next → next ≤ length out
     → Follows input (drop r.next block) st' out' next after 0 gone
 follows-line {block = block} {st = st} {st'} {out} {out'} {fill} {next} {line} {after} {held} {gone} {r} f g e m o n =
     let bytes = f.begun ++ g.piece in
@@ -161,24 +161,24 @@ follows-line {block = block} {st = st} {st'} {out} {out'} {fill} {next} {line} {
       whole = f.whole
           ∙ rw (g.first, e) (sym (append_snoc f.lines bytes (pieces newline (drop r.next block))))
           ∙ ap (λ (ps : List (List ℕ)). (f.lines ++ bytes ∷ []) ++ ps) (sym (onto-nothing newline (drop r.next block)));
-      state = state-then st f.lines bytes gone out fill after r.held f.state f.printed h m st' out' next o n;
-      printed = printed-then st f.lines bytes gone out fill after r.held f.state f.printed h m st' out' next o n;
+      state = state_then st f.lines bytes gone out fill after r.held f.state f.printed h m st' out' next o n;
+      printed = printed_then st f.lines bytes gone out fill after r.held f.state f.printed h m st' out' next o n;
       holds = record { within = omega arith; same = sym (take-nil (length after)) };
     }
 
 -- ---- the end
 
-without-empty : (ls : List (List ℕ)) → withoutEmptyLast (ls ++ [] ∷ []) ≡ ls
-without-empty [] = refl
-without-empty ([] ∷ []) = refl
-without-empty ([] ∷ l ∷ ls) = ap (λ (r : List (List ℕ)). [] ∷ r) (without-empty (l ∷ ls))
-without-empty ((b ∷ bs) ∷ ls) = ap (λ (r : List (List ℕ)). (b ∷ bs) ∷ r) (without-empty ls)
+without_empty : (ls : List (List ℕ)) → without_empty_last (ls ++ [] ∷ []) ≡ ls
+without_empty [] = refl
+without_empty ([] ∷ []) = refl
+without_empty ([] ∷ l ∷ ls) = ap (λ (r : List (List ℕ)). [] ∷ r) (without_empty (l ∷ ls))
+without_empty ((b ∷ bs) ∷ ls) = ap (λ (r : List (List ℕ)). (b ∷ bs) ∷ r) (without_empty ls)
 
-with-last : (ls : List (List ℕ)) (b : ℕ) (bs : List ℕ) → withoutEmptyLast (ls ++ (b ∷ bs) ∷ []) ≡ ls ++ (b ∷ bs) ∷ []
-with-last [] b bs = refl
-with-last ([] ∷ []) b bs = refl
-with-last ([] ∷ l ∷ ls) b bs = ap (λ (r : List (List ℕ)). [] ∷ r) (with-last (l ∷ ls) b bs)
-with-last ((c ∷ cs) ∷ ls) b bs = ap (λ (r : List (List ℕ)). (c ∷ cs) ∷ r) (with-last ls b bs)
+with_last : (ls : List (List ℕ)) (b : ℕ) (bs : List ℕ) → without_empty_last (ls ++ (b ∷ bs) ∷ []) ≡ ls ++ (b ∷ bs) ∷ []
+with_last [] b bs = refl
+with_last ([] ∷ []) b bs = refl
+with_last ([] ∷ l ∷ ls) b bs = ap (λ (r : List (List ℕ)). [] ∷ r) (with_last (l ∷ ls) b bs)
+with_last ((c ∷ cs) ∷ ls) b bs = ap (λ (r : List (List ℕ)). (c ∷ cs) ∷ r) (with_last ls b bs)
 
 -- the input's lines, all but the one begun
 module _ {input : List ℕ} {st : State} {out : List ℕ} {fill : ℕ} {line : List ℕ} {held : ℕ} {gone : List ℕ} (f : Follows input [] st out fill line held gone) where
@@ -191,28 +191,28 @@ module _ {input : List ℕ} {st : State} {out : List ℕ} {fill : ℕ} {line : L
   unfolding output
   follows-end z l = f.printed ∙ go f.begun refl
     where
-      go : (b : List ℕ) → f.begun ≡ b → replies freshState f.lines ≡ replies freshState (withoutEmptyLast (pieces newline input))
-      go [] e = ap (replies freshState) (sym (without-empty f.lines) ∙ ap withoutEmptyLast (ap (λ (p : List ℕ). f.lines ++ p ∷ []) (sym e) ∙ sym parts))
+      go : (b : List ℕ) → f.begun ≡ b → replies fresh_state f.lines ≡ replies fresh_state (without_empty_last (pieces newline input))
+      go [] e = ap (replies fresh_state) (sym (without_empty f.lines) ∙ ap without_empty_last (ap (λ (p : List ℕ). f.lines ++ p ∷ []) (sym e) ∙ sym parts))
       go (b ∷ bs) e = absurd (omega (arith, ap length e, (all_held line held f.begun f.holds (omega arith)).1))
 
   -- the last line lacks its newline
-  pub follows-last : {st' : State} {out' : List ℕ} {next : ℕ} → 1 ≤ held → lineMost < length line
-      → ObeysLine (lineReply st (take held line)) st' out fill out' next → next ≤ length out → gone ++ take next out' ≡ output input
+  pub follows-last : {st' : State} {out' : List ℕ} {next : ℕ} → 1 ≤ held → line_most < length line
+      → ObeysLine (line_reply st (take held line)) st' out fill out' next → next ≤ length out → gone ++ take next out' ≡ output input
   unfolding output
   follows-last {st'} {out'} {next} h m o n =
-      printed-then st f.lines f.begun gone out fill line held f.state f.printed f.holds m st' out' next o n ∙ go f.begun refl
+      printed_then st f.lines f.begun gone out fill line held f.state f.printed f.holds m st' out' next o n ∙ go f.begun refl
     where
-      go : (b : List ℕ) → f.begun ≡ b → replies freshState (f.lines ++ f.begun ∷ []) ≡ replies freshState (withoutEmptyLast (pieces newline input))
+      go : (b : List ℕ) → f.begun ≡ b → replies fresh_state (f.lines ++ f.begun ∷ []) ≡ replies fresh_state (without_empty_last (pieces newline input))
       go [] e =
           let z : take (length line) f.begun ≡ [] = rw e (take-nil (length line)) in
           absurd (omega (arith, length-take-le held line f.holds.within, ap length (f.holds.same ∙ z)))
       go (b ∷ bs) e =
-          ap (replies freshState)
-          (ap (λ (p : List ℕ). f.lines ++ p ∷ []) e ∙ sym (with-last f.lines b bs)
-          ∙ ap withoutEmptyLast (ap (λ (p : List ℕ). f.lines ++ p ∷ []) (sym e) ∙ sym parts))
+          ap (replies fresh_state)
+          (ap (λ (p : List ℕ). f.lines ++ p ∷ []) e ∙ sym (with_last f.lines b bs)
+          ∙ ap without_empty_last (ap (λ (p : List ℕ). f.lines ++ p ∷ []) (sym e) ∙ sym parts))
 
 -- nothing was read yet
-pub follows-start : (out line : List ℕ) → Follows [] [] freshState out 0 line 0 []
+pub follows-start : (out line : List ℕ) → Follows [] [] fresh_state out 0 line 0 []
 unfolding pieces reached replies
 follows-start out line =
     record { lines = []; begun = []; whole = refl; state = refl; printed = refl; holds = record { within = omega arith; same = sym (take-nil (length line)) } }

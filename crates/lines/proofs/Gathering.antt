@@ -9,7 +9,7 @@ use native.Mathlib.Omega.{arith}
 use lib.ListN.{length, get_or, take, drop, set, length-set, length-append}
 use lib.Seq.{slice, slice_empty, take_all, take-append-le, take-suc-set, length-take-le}
 use Rattle.rules.specs.Script.{newline}
-use Rattle.words.proofs.Pieces.{slice-suc, Within, within-start, within-next, within-separator, within-last}
+use Rattle.words.proofs.Pieces.{slice-suc, Within, within-start, within-next, within_separator, within-last}
 use Rattle.lines.specs.declared.stream.Gathered.{Gathered}
 use Rattle.lines.specs.Stream.{Holds, Keeps, Gathers}
 
@@ -28,8 +28,8 @@ module _ (line : List ℕ) (held : ℕ) (bytes : List ℕ) (h : Holds line held 
       go (no m) = let e : take held line ≡ bytes = h.same ∙ take_all (length line) bytes (omega arith) in (e, sym n ∙ ap length e)
 
   -- and else as many as there is room for
-  none-lost : length line ≤ held → length line ≤ length bytes
-  none-lost l = go (dec_lt (length bytes) (length line))
+  none_lost : length line ≤ held → length line ≤ length bytes
+  none_lost l = go (dec_lt (length bytes) (length line))
     where
       n : length (take held line) ≡ held
       n = length-take-le held line h.within
@@ -52,12 +52,12 @@ keep-room line held b l =
           };
     }
 
-pub keep-full : (line : List ℕ) (held b : ℕ) → held ≤ length line → length line ≤ held → Keeps line held b line held
-keep-full line held b w l =
+pub keep_full : (line : List ℕ) (held b : ℕ) → held ≤ length line → length line ≤ held → Keeps line held b line held
+keep_full line held b w l =
     record {
       long = refl;
       within = w;
-      holds = λ bytes h. record { within = w; same = h.same ∙ sym (take-append-le (length line) bytes (b ∷ []) (none-lost line held bytes h l)) };
+      holds = λ bytes h. record { within = w; same = h.same ∙ sym (take-append-le (length line) bytes (b ∷ []) (none_lost line held bytes h l)) };
     }
 
 -- ---- a line gathered from a block
@@ -69,8 +69,8 @@ module _ (block : List ℕ) (at : ℕ) (line : List ℕ) (held : ℕ) where
     pub room : kept ≤ length line
     pub holds : (bytes : List ℕ) → Holds line held bytes → Holds after kept (bytes ++ slice at i block)
 
-  pub gathering-start : at ≤ length block → held ≤ length line → Gathering line held at
-  gathering-start h r =
+  pub gathering_start : at ≤ length block → held ≤ length line → Gathering line held at
+  gathering_start h r =
       record {
         within = within-start newline block at h;
         long = refl;
@@ -78,9 +78,9 @@ module _ (block : List ℕ) (at : ℕ) (line : List ℕ) (held : ℕ) where
         holds = λ bytes q. rw (slice_empty at block, append-nil) q;
       }
 
-  pub gathering-next : {after next : List ℕ} {kept i r : ℕ} → Gathering after kept i → i < length block → (get_or block i 0 ≡ newline → ⊥)
+  pub gathering_next : {after next : List ℕ} {kept i r : ℕ} → Gathering after kept i → i < length block → (get_or block i 0 ≡ newline → ⊥)
       → Keeps after kept (get_or block i 0) next r → Gathering next r (i + 1)
-  gathering-next {i = i} g l n k =
+  gathering_next {i = i} g l n k =
       record {
         within = within-next newline block at i g.within l n;
         long = k.long ∙ g.long;
@@ -90,12 +90,12 @@ module _ (block : List ℕ) (at : ℕ) (line : List ℕ) (held : ℕ) where
             (k.holds (bytes ++ slice at i block) (g.holds bytes q));
       }
 
-  pub gathered-line : {after : List ℕ} {kept i : ℕ} → Gathering after kept i → i < length block → get_or block i 0 ≡ newline
+  pub gathered_line : {after : List ℕ} {kept i : ℕ} → Gathering after kept i → i < length block → get_or block i 0 ≡ newline
       → Gathers block at line held after (record { next = i + 1; held = kept; whole = true })
-  gathered-line {i = i} g l n =
+  gathered_line {i = i} g l n =
       record {
         piece = slice at i block;
-        first = within-separator newline block at i g.within l n;
+        first = within_separator newline block at i g.within l n;
         holds = g.holds;
         long = g.long;
         room = g.room;
@@ -104,9 +104,9 @@ module _ (block : List ℕ) (at : ℕ) (line : List ℕ) (held : ℕ) where
         last = λ e. cc;
       }
 
-  pub gathered-part : {after : List ℕ} {kept i : ℕ} → Gathering after kept i → length block ≤ i
+  pub gathered_part : {after : List ℕ} {kept i : ℕ} → Gathering after kept i → length block ≤ i
       → Gathers block at line held after (record { next = i; held = kept; whole = false })
-  gathered-part {i = i} g l =
+  gathered_part {i = i} g l =
       record {
         piece = slice at i block;
         first = within-last newline block at i g.within l;

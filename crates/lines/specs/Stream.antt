@@ -3,7 +3,7 @@ use Rattle.std.specs.Prelude.{ℕ, ◌+◌, ◌≤◌, ◌<◌, ◌≡◌, Bool,
 use Rattle.rules.specs.Notation.{if◌then◌else◌}
 use Rattle.rules.specs.Tables.{State}
 use Rattle.rules.specs.Slots.{empty}
-use Rattle.rules.specs.Script.{capacity, newline, pieces, lineReply, replies, output}
+use Rattle.rules.specs.Script.{capacity, newline, pieces, line_reply, replies, output}
 use Rattle.words.specs.Words.{onto}
 use Rattle.lines.specs.declared.stream.Gathered.{Gathered}
 
@@ -31,16 +31,16 @@ pub record Gathers (block : List ℕ) (at : ℕ) (line : List ℕ) (held : ℕ) 
 -- the state after some lines
 unfoldable pub reached : State → (lines : List (List ℕ)) → State
 reached st [] = st
-reached st (l ∷ ls) = reached (lineReply st l).state ls
+reached st (l ∷ ls) = reached (line_reply st l).state ls
 
-abbrev pub freshState : State
-freshState = empty capacity capacity 1
+abbrev pub fresh_state : State
+fresh_state = empty capacity capacity 1
 
 -- Of an input, `left` is still to be read. Its lines so far were obeyed, from fresh tables on; what they print is what has gone out, and what stands at the start of `out` after it; and the line begun is held.
 pub record Follows (input left : List ℕ) (st : State) (out : List ℕ) (fill : ℕ) (line : List ℕ) (held : ℕ) (gone : List ℕ) : Type 0 where
   pub lines : List (List ℕ)
   pub begun : List ℕ
   pub whole : pieces newline input ≡ lines ++ onto begun (pieces newline left)
-  pub state : st ≡ reached freshState lines
-  pub printed : gone ++ take fill out ≡ replies freshState lines
+  pub state : st ≡ reached fresh_state lines
+  pub printed : gone ++ take fill out ≡ replies fresh_state lines
   pub holds : Holds line held begun

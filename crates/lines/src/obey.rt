@@ -1,11 +1,11 @@
 // A line obeyed: its call is made at the inner door, and its answer printed.
 ghost use Rattle.std.specs.Prelude.{◌+◌, ◌*◌, ◌≤◌, ◌≡◌, length};
 ghost use Rattle.rules.specs.Tables.{state_of};
-ghost use Rattle.rules.specs.Drains.{keyWidth};
+ghost use Rattle.rules.specs.Drains.{key_width};
 ghost use Rattle.rules.specs.Calls.{Ready};
-ghost use Rattle.rules.specs.Script.{capacity, lineReply};
-ghost use Rattle.words.specs.Lines.{replyOf};
-ghost use Rattle.lines.specs.Obeys.{replyMost, Obeys, ObeysLine};
+ghost use Rattle.rules.specs.Script.{capacity, line_reply};
+ghost use Rattle.words.specs.Lines.{reply_of};
+ghost use Rattle.lines.specs.Obeys.{reply_most, Obeys, ObeysLine};
 
 use rules::{Head, Refusal};
 use told::{Obeyed, put_refusal, put_ring, put_text, tell_inserted, tell_joined, tell_removed};
@@ -21,8 +21,8 @@ pub fn obey_line(
     at: usize,
     line: Line,
 ) -> Obeyed
-    requires { Ready (state_of head elems.old shared.old) × (length keys.old ≡ capacity * keyWidth) × (at + replyMost ≤ length out.old) }
-    ensures { Obeys (replyOf (state_of head elems.old shared.old) line) (state_of result.head elems.new shared.new) out.old at out.new result.next }
+    requires { Ready (state_of head elems.old shared.old) × (length keys.old ≡ capacity * key_width) × (at + reply_most ≤ length out.old) }
+    ensures { Obeys (reply_of (state_of head elems.old shared.old) line) (state_of result.head elems.new shared.new) out.old at out.new result.next }
 {
     match line {
         Line::NewRun {
@@ -71,8 +71,8 @@ pub fn obey_bytes(
     at: usize,
     line: &[u8],
 ) -> Obeyed
-    requires { Ready (state_of head elems.old shared.old) × (length keys.old ≡ capacity * keyWidth) × (at + replyMost ≤ length out.old) }
-    ensures { ObeysLine (lineReply (state_of head elems.old shared.old) line.now) (state_of result.head elems.new shared.new) out.old at out.new result.next }
+    requires { Ready (state_of head elems.old shared.old) × (length keys.old ≡ capacity * key_width) × (at + reply_most ≤ length out.old) }
+    ensures { ObeysLine (line_reply (state_of head elems.old shared.old) line.now) (state_of result.head elems.new shared.new) out.old at out.new result.next }
 {
     let read = read_line(line);
     let o = obey_line(head, elems, shared, keys, out, at, read);

@@ -11,23 +11,23 @@ use Rattle.rules.specs.declared.HeadsDone.{HeadsDone}
 use Rattle.rules.specs.declared.Done.TheVariants as done
 use Rattle.rules.specs.declared.Refusal.{Refusal}
 use Rattle.rules.specs.Notation.{◌==◌, flat}
-use Rattle.rules.specs.Tables.{mostSlots, lastGeneration, frameWidth, headerWidth, blank, State, state_of}
-use Rattle.rules.specs.Refusals.{saidAccepted, shaped}
+use Rattle.rules.specs.Tables.{most_slots, last_generation, frame_width, header_width, blank, State, state_of}
+use Rattle.rules.specs.Refusals.{said_accepted, shaped}
 use Rattle.rules.specs.Slots.{empty, raised, overflows}
 use Rattle.rules.specs.Drains.{cleared}
 use Rattle.rules.specs.Calls.{Ready}
-use Rattle.rules.specs.Compress.{canonicalFrames, canonicalClasses, padded, packedIn, movedFrame, movedHeader, renumberedIn}
-use Rattle.rules.specs.TwoTables.{refuse, twoOutcome, after_both}
-use Rattle.rules.specs.Move.{transfer, transferStep}
-use Rattle.rules.proofs.laws.Lists.{In}
-use Rattle.rules.proofs.laws.Move.{Fitting}
-use Rattle.rules.proofs.laws.Moving
-use Rattle.rules.proofs.laws.Working.{view, Working}
-use Rattle.rules.proofs.laws.Soundness.{Shaped, shaped_of}
-use Rattle.rules.proofs.laws.Safe.{working, safe}
-use Rattle.rules.proofs.laws.Past.{past-shared}
-use Rattle.rules.proofs.laws.Order.{Listed, frames-listed, classes-listed}
-use Rattle.rules.proofs.laws.Compress.{listed-live}
+use Rattle.rules.specs.Compress.{canonical_frames, canonical_classes, padded, packed_in, moved_frame, moved_header, renumbered_in}
+use Rattle.rules.specs.TwoTables.{refuse, two_outcome, after_both}
+use Rattle.rules.specs.Move.{transfer, transfer_step}
+use Rattle.rules.proofs.Laws.Lists.{In}
+use Rattle.rules.proofs.Laws.Move.{Fitting}
+use Rattle.rules.proofs.Laws.Moving
+use Rattle.rules.proofs.Laws.Working.{view, Working}
+use Rattle.rules.proofs.Laws.Soundness.{Shaped, shaped_of}
+use Rattle.rules.proofs.Laws.Safe.{working, safe}
+use Rattle.rules.proofs.Laws.Past.{past-shared}
+use Rattle.rules.proofs.Laws.Order.{Listed, frames_listed, classes_listed}
+use Rattle.rules.proofs.Laws.Compress.{listed_live}
 use Rattle.wipes.specs.Wiped.{ZeroPast}
 use Rattle.moves.specs.Moves.{Movable, Landed}
 
@@ -37,32 +37,32 @@ none (x ∷ xs) e = absurd (omega arith)
 
 -- an empty source gives empty tables
 module _ (st : State) (W : Working (view st)) (z : st.head.elems.live ≡ 0) where
-  no_frames : canonicalFrames st ≡ []
-  no_frames = none (canonicalFrames st) (listed-live W.elems (canonicalFrames st) (frames-listed st W) ∙ z)
+  no_frames : canonical_frames st ≡ []
+  no_frames = none (canonical_frames st) (listed_live W.elems (canonical_frames st) (frames_listed st W) ∙ z)
 
-  no-headers : canonicalClasses st ≡ []
-  no-headers = go (canonicalClasses st) (classes-listed st W)
+  no_headers : canonical_classes st ≡ []
+  no_headers = go (canonical_classes st) (classes_listed st W)
     where
       go : (cs : List ℕ) → Listed (view st).count cs → cs ≡ []
       go [] L = refl
       go (c ∷ cs) L =
           let r = W.ring c L.live.0 in
-          absurd (rw no_frames at ((frames-listed st W).whole r.0 r.1.frames.0.live))
+          absurd (rw no_frames at ((frames_listed st W).whole r.0 r.1.frames.0.live))
 
   no_shared : st.head.shared.live ≡ 0
-  no_shared = sym (listed-live W.shared (canonicalClasses st) (classes-listed st W)) ∙ ap length no-headers
+  no_shared = sym (listed_live W.shared (canonical_classes st) (classes_listed st W)) ∙ ap length no_headers
 
-  renumbered-none : (a b g : ℕ) → renumberedIn a b st (canonicalFrames st) (canonicalClasses st) g ≡ empty a b g
-  unfolding renumberedIn empty padded
+  renumbered-none : (a b g : ℕ) → renumbered_in a b st (canonical_frames st) (canonical_classes st) g ≡ empty a b g
+  unfolding renumbered_in empty padded
   renumbered-none a b g =
-      let x : a * frameWidth - 0 ≡ a * frameWidth = omega arith in
-      let y : b * headerWidth - 0 ≡ b * headerWidth = omega arith in
+      let x : a * frame_width - 0 ≡ a * frame_width = omega arith in
+      let y : b * header_width - 0 ≡ b * header_width = omega arith in
       (λ i. record {
-        head = record { elems = packedIn a (z i); shared = packedIn b (no_shared i); generation = g; undo = blank };
-        elems = padded (a * frameWidth) (flat (map (movedFrame st (canonicalFrames st) (canonicalClasses st) g) (no_frames i)));
-        shared = padded (b * headerWidth) (flat (map (movedHeader st) (no-headers i)));
+        head = record { elems = packed_in a (z i); shared = packed_in b (no_shared i); generation = g; undo = blank };
+        elems = padded (a * frame_width) (flat (map (moved_frame st (canonical_frames st) (canonical_classes st) g) (no_frames i)));
+        shared = padded (b * header_width) (flat (map (moved_header st) (no_headers i)));
       })
-      ∙ (λ i. record { head = record { elems = packedIn a 0; shared = packedIn b 0; generation = g; undo = blank }; elems = replicate {A = ℕ} (x i) 0; shared = replicate {A = ℕ} (y i) 0 })
+      ∙ (λ i. record { head = record { elems = packed_in a 0; shared = packed_in b 0; generation = g; undo = blank }; elems = replicate {A = ℕ} (x i) 0; shared = replicate {A = ℕ} (y i) 0 })
 
 module _ (to of : State) (g : ℕ) where
   abbrev a : ℕ
@@ -72,23 +72,23 @@ module _ (to of : State) (g : ℕ) where
   b = to.head.shared.capacity
 
   -- a refusal told by the code is the rule's
-  pub refusing : (why : Refusal) (r : HeadsDone) → r ≡ record { head = to.head; source = of.head; answer = done.Refused why; over = false } → transfer to of g ≡ refuse why → after_both r to.elems to.shared of.elems of.shared ≡ transferStep to of g
+  pub refusing : (why : Refusal) (r : HeadsDone) → r ≡ record { head = to.head; source = of.head; answer = done.Refused why; over = false } → transfer to of g ≡ refuse why → after_both r to.elems to.shared of.elems of.shared ≡ transfer_step to of g
   refusing why r e q = rw (e, q)
 
   module _ (F : Fitting to of g) where
-    pub move-empty : Ready of → of.head.elems.live ≡ 0 → (h : Head) (e s : List ℕ) → state_of h e s ≡ empty a b g → after_both (record { head = h; source = of.head; answer = done.Done; over = false }) e s of.elems of.shared ≡ transferStep to of g
-    move-empty R z h e s q = (λ i. record { said = saidAccepted [] false; target = (q ∙ sym (renumbered-none of (working of R) z a b g)) i; source = of }) ∙ ap (twoOutcome to of) (sym (Moving.move-none to of g F z))
+    pub move-empty : Ready of → of.head.elems.live ≡ 0 → (h : Head) (e s : List ℕ) → state_of h e s ≡ empty a b g → after_both (record { head = h; source = of.head; answer = done.Done; over = false }) e s of.elems of.shared ≡ transfer_step to of g
+    move-empty R z h e s q = (λ i. record { said = said_accepted [] false; target = (q ∙ sym (renumbered-none of (working of R) z a b g)) i; source = of }) ∙ ap (two_outcome to of) (sym (Moving.move-none to of g F z))
 
-    pub move-done : Ready of → of.head.elems.live ≢ 0 → (e s fr : List ℕ) → length to.elems ≡ a * frameWidth → length to.shared ≡ b * headerWidth → Landed to.elems to.shared of g e s fr
-        → (hd₀ : Head) → hd₀ ≡ record { elems = packedIn a of.head.elems.live; shared = packedIn b of.head.shared.live; generation = g; undo = blank }
-        → (hd : Head) (fr' hs : List ℕ) (n : ℕ) (over : Bool) → n ≡ raised of.head.generation → over ≡ (of.head.generation == lastGeneration) → state_of hd fr' hs ≡ empty of.head.elems.capacity of.head.shared.capacity n
-        → after_both (record { head = hd₀; source = hd; answer = done.Done; over = over }) e s fr' hs ≡ transferStep to of g
-    unfolding renumberedIn cleared overflows
+    pub move-done : Ready of → of.head.elems.live ≢ 0 → (e s fr : List ℕ) → length to.elems ≡ a * frame_width → length to.shared ≡ b * header_width → Landed to.elems to.shared of g e s fr
+        → (hd₀ : Head) → hd₀ ≡ record { elems = packed_in a of.head.elems.live; shared = packed_in b of.head.shared.live; generation = g; undo = blank }
+        → (hd : Head) (fr' hs : List ℕ) (n : ℕ) (over : Bool) → n ≡ raised of.head.generation → over ≡ (of.head.generation == last_generation) → state_of hd fr' hs ≡ empty of.head.elems.capacity of.head.shared.capacity n
+        → after_both (record { head = hd₀; source = hd; answer = done.Done; over = over }) e s fr' hs ≡ transfer_step to of g
+    unfolding renumbered_in cleared overflows
     move-done R live e s fr x y L hd₀ p hd fr' hs n over w o z =
-        (λ i. record { said = saidAccepted [] (o i); target = state_of (p i) (L.elems a b x F.elems i) (L.shared a b y F.shared i); source = (z ∙ ap (empty of.head.elems.capacity of.head.shared.capacity) w) i })
-        ∙ ap (twoOutcome to of) (sym (Moving.move_some to of g F live))
+        (λ i. record { said = said_accepted [] (o i); target = state_of (p i) (L.elems a b x F.elems i) (L.shared a b y F.shared i); source = (z ∙ ap (empty of.head.elems.capacity of.head.shared.capacity) w) i })
+        ∙ ap (two_outcome to of) (sym (Moving.move_some to of g F live))
 
-pub fitting : (to of : State) (g : ℕ) → 1 ≤ g → g ≤ lastGeneration → of.head.elems.live ≤ to.head.elems.capacity → of.head.shared.live ≤ to.head.shared.capacity → Fitting to of g
+pub fitting : (to of : State) (g : ℕ) → 1 ≤ g → g ≤ last_generation → of.head.elems.live ≤ to.head.elems.capacity → of.head.shared.live ≤ to.head.shared.capacity → Fitting to of g
 fitting to of g l m e s = record { least = l; most = m; elems = e; shared = s }
 
 -- tables that are wiped whole need not be zero past anything
@@ -97,11 +97,11 @@ whole-past n w t e = record { long = e; within = omega arith; zeros = λ i h. ge
 
 -- the source's tables are zero past their extents still
 pub left-past : (of : State) (g : ℕ) (e t e' t' fr : List ℕ) → Ready of → Landed e t of g e' t' fr
-    → ZeroPast of.head.elems.capacity frameWidth of.head.elems.extent fr × ZeroPast of.head.shared.capacity headerWidth of.head.shared.extent of.shared
+    → ZeroPast of.head.elems.capacity frame_width of.head.elems.extent fr × ZeroPast of.head.shared.capacity header_width of.head.shared.extent of.shared
 left-past of g e t e' t' fr R L =
     let S = safe of R in
     (record { long = L.long ∙ S.elems.long; within = S.elems.pool.within; zeros = L.past }, record { long = S.shared.long; within = S.shared.pool.within; zeros = past-shared of R })
 
 -- what landing asks
 pub movable : (to of : State) → shaped to ≡ true → Ready of → of.head.elems.live ≤ to.head.elems.capacity → of.head.shared.live ≤ to.head.shared.capacity → Movable to.elems to.shared of.head of.elems of.shared
-movable to of T R l k = let H = shaped_of to T in record { ready = R; slots = to.head.elems.capacity; headerSlots = to.head.shared.capacity; long = H.elems.long; sharedLong = H.shared.long; room = l; sharedRoom = k }
+movable to of T R l k = let H = shaped_of to T in record { ready = R; slots = to.head.elems.capacity; header_slots = to.head.shared.capacity; long = H.elems.long; shared_long = H.shared.long; room = l; shared_room = k }

@@ -4,11 +4,11 @@ ghost use Rattle.std.specs.Prelude.{◌≡◌, true, false};
 ghost use Rattle.rules.specs.declared.Done.TheVariants as done;
 ghost use Rattle.rules.specs.Tables as tables;
 ghost use Rattle.rules.specs.Tables.{state_of};
-ghost use Rattle.rules.specs.Compress.{packedIn};
+ghost use Rattle.rules.specs.Compress.{packed_in};
 ghost use Rattle.rules.specs.Refusals.{shaped};
 ghost use Rattle.rules.specs.Calls.{Ready};
 ghost use Rattle.rules.specs.TwoTables.{after_both};
-ghost use Rattle.rules.specs.Move.{transferStep};
+ghost use Rattle.rules.specs.Move.{transfer_step};
 ghost use Rattle.moves.specs.Moves.{Layable, Laid, Movable, Landed};
 
 use clones::copy_row;
@@ -71,7 +71,7 @@ pub fn stays(head: Head, source: Head, why: Refusal) -> HeadsDone
 
 // Extents are the live numbers and roots 0; nothing is left to undo.
 fn packed(room: u64, live: u64, places: u64, runs: u64, generation: u64) -> Head
-    ensures { result ≡ record { elems = packedIn room live; shared = packedIn places runs; generation = generation; undo = tables.blank } }
+    ensures { result ≡ record { elems = packed_in room live; shared = packed_in places runs; generation = generation; undo = tables.blank } }
 {
     Head {
         elems: Pool {
@@ -102,7 +102,7 @@ pub fn transfer_canonical(
     headers: &mut [u64],
 ) -> HeadsDone
     requires { (shaped (state_of head elems.old shared.old) ≡ true) × Ready (state_of source frames.old headers.old) }
-    ensures { after_both result elems.new shared.new frames.new headers.new ≡ transferStep (state_of head elems.old shared.old) (state_of source frames.old headers.old) generation }
+    ensures { after_both result elems.new shared.new frames.new headers.new ≡ transfer_step (state_of head elems.old shared.old) (state_of source frames.old headers.old) generation }
 {
     if generation == 0 {
         return stays(head, source, Refusal::OutOfRange);

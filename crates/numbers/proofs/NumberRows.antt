@@ -5,8 +5,8 @@ use mathlib.Core.Bool.{Bool, true, false}
 use mathlib.Core.List.{List, [], ◌∷◌, map}
 use Rattle.rules.specs.declared.Head.{Head}
 use Rattle.rules.specs.Refusals.{Said}
-use Rattle.numbers.specs.Numbers.{head_of, values, valuesOver, removalNumbers, result_of, Answered}
-use Rattle.numbers.proofs.Thirteen.{thirteenOf}
+use Rattle.numbers.specs.Numbers.{head_of, values, values_over, removal_numbers, result_of, Answered}
+use Rattle.numbers.proofs.Thirteen.{thirteen_of}
 
 -- the lent head (docs/LAYOUT.md)
 abbrev lent : List ℕ
@@ -25,7 +25,7 @@ head : head_of lent ≡ taken
 unfolding head_of
 head = refl
 
-thirteen : thirteenOf taken ≡ lent
+thirteen : thirteen_of taken ≡ lent
 thirteen = refl
 
 -- what is said, and the numbers in `out`
@@ -41,26 +41,26 @@ abbrev table : List Row
 table =
     record { numbers = values; said = said 0 [] true; out = [] } ∷
     record { numbers = values; said = said 0 (21 ∷ 22 ∷ 23 ∷ 24 ∷ []) true; out = 21 ∷ 22 ∷ 23 ∷ 24 ∷ [] } ∷
-    record { numbers = valuesOver; said = said 0 [] false; out = 0 ∷ [] } ∷
-    record { numbers = valuesOver; said = said 0 [] true; out = 1 ∷ [] } ∷
-    record { numbers = valuesOver; said = said 0 (31 ∷ 32 ∷ []) false; out = 31 ∷ 32 ∷ 0 ∷ [] } ∷
-    record { numbers = valuesOver; said = said 0 (31 ∷ 32 ∷ []) true; out = 31 ∷ 32 ∷ 1 ∷ [] } ∷
-    record { numbers = removalNumbers; said = said 0 [] true; out = [] } ∷
-    record { numbers = removalNumbers; said = said 0 (41 ∷ []) false; out = 41 ∷ 0 ∷ 0 ∷ 0 ∷ [] } ∷
-    record { numbers = removalNumbers; said = said 0 (41 ∷ []) true; out = 41 ∷ 0 ∷ 0 ∷ 1 ∷ [] } ∷
-    record { numbers = removalNumbers; said = said 0 (41 ∷ 42 ∷ []) false; out = 41 ∷ 1 ∷ 42 ∷ 0 ∷ [] } ∷
-    record { numbers = removalNumbers; said = said 0 (41 ∷ 42 ∷ []) true; out = 41 ∷ 1 ∷ 42 ∷ 1 ∷ [] } ∷
-    record { numbers = removalNumbers; said = said 0 (41 ∷ 42 ∷ 43 ∷ []) true; out = 41 ∷ 1 ∷ 42 ∷ 1 ∷ [] } ∷
+    record { numbers = values_over; said = said 0 [] false; out = 0 ∷ [] } ∷
+    record { numbers = values_over; said = said 0 [] true; out = 1 ∷ [] } ∷
+    record { numbers = values_over; said = said 0 (31 ∷ 32 ∷ []) false; out = 31 ∷ 32 ∷ 0 ∷ [] } ∷
+    record { numbers = values_over; said = said 0 (31 ∷ 32 ∷ []) true; out = 31 ∷ 32 ∷ 1 ∷ [] } ∷
+    record { numbers = removal_numbers; said = said 0 [] true; out = [] } ∷
+    record { numbers = removal_numbers; said = said 0 (41 ∷ []) false; out = 41 ∷ 0 ∷ 0 ∷ 0 ∷ [] } ∷
+    record { numbers = removal_numbers; said = said 0 (41 ∷ []) true; out = 41 ∷ 0 ∷ 0 ∷ 1 ∷ [] } ∷
+    record { numbers = removal_numbers; said = said 0 (41 ∷ 42 ∷ []) false; out = 41 ∷ 1 ∷ 42 ∷ 0 ∷ [] } ∷
+    record { numbers = removal_numbers; said = said 0 (41 ∷ 42 ∷ []) true; out = 41 ∷ 1 ∷ 42 ∷ 1 ∷ [] } ∷
+    record { numbers = removal_numbers; said = said 0 (41 ∷ 42 ∷ 43 ∷ []) true; out = 41 ∷ 1 ∷ 42 ∷ 1 ∷ [] } ∷
     []
 
 told : map (λ (r : Row). r.numbers r.said) table ≡ map (λ (r : Row). r.out) table
 told = refl
 
 -- an accepted answer's numbers replace what `out` held, a refusal's number leaves it
-accepted : Answered removalNumbers (said 0 (41 ∷ 42 ∷ []) true) (51 ∷ 52 ∷ 53 ∷ 54 ∷ []) 0 (41 ∷ 1 ∷ 42 ∷ 1 ∷ [])
+accepted : Answered removal_numbers (said 0 (41 ∷ 42 ∷ []) true) (51 ∷ 52 ∷ 53 ∷ 54 ∷ []) 0 (41 ∷ 1 ∷ 42 ∷ 1 ∷ [])
 accepted = record { number = refl; out = refl }
 
-refused : Answered removalNumbers (said 4 (41 ∷ 42 ∷ []) true) (51 ∷ 52 ∷ 53 ∷ 54 ∷ []) 4 (51 ∷ 52 ∷ 53 ∷ 54 ∷ [])
+refused : Answered removal_numbers (said 4 (41 ∷ 42 ∷ []) true) (51 ∷ 52 ∷ 53 ∷ 54 ∷ []) 4 (51 ∷ 52 ∷ 53 ∷ 54 ∷ [])
 refused = record { number = refl; out = refl }
 
 -- Ticket 5: the result, with the cause of 3 above its low eight bits

@@ -11,10 +11,10 @@ use Rattle.rules.specs.Notation.{if◌then◌else◌, ◌==◌}
 use Rattle.rules.specs.declared.Cause.TheVariants.{NoSlot, FreeSlot, OtherGeneration}
 use Rattle.rules.specs.declared.Refusal.{Refusal}
 use Rattle.rules.specs.declared.Refusal.TheVariants.{Shape, Unsound, Dead, SameClass, NoElement, NoShared, Short, Malformed, NoFile, Nothing, Version, Sealed, OutOfRange}
-use Rattle.rules.specs.Refusals.{number_of, values_of, Said, saidRefused, saidAccepted}
+use Rattle.rules.specs.Refusals.{number_of, values_of, Said, said_refused, said_accepted}
 use Rattle.rules.specs.Calls.{Is}
-use Rattle.rules.specs.Answers.{saidBeside}
-use Rattle.rules.proofs.laws.Tests.{eq_is}
+use Rattle.rules.specs.Answers.{said_beside}
+use Rattle.rules.proofs.Laws.Tests.{eq_is}
 use Rattle.numbers.specs.Numbers.{result_of, Answered}
 
 -- a refused call leaves `out` as it was
@@ -34,7 +34,7 @@ kept Sealed a b = refl
 kept OutOfRange a b = refl
 
 -- its result is what it is with nothing beside
-alike : (r : Refusal) (values : List ℕ) (over : Bool) → result_of (saidRefused r) ≡ result_of (saidBeside r values over)
+alike : (r : Refusal) (values : List ℕ) (over : Bool) → result_of (said_refused r) ≡ result_of (said_beside r values over)
 alike Shape values over = refl
 alike Unsound values over = refl
 alike (Dead cause) values over = refl
@@ -49,11 +49,11 @@ alike Version values over = refl
 alike Sealed values over = refl
 alike OutOfRange values over = refl
 
-pub refused : (numbers : Said → List ℕ) (said : Said) (r : Refusal) (values : List ℕ) (over : Bool) (out : List ℕ) (n : ℕ) → said ≡ saidBeside r values over → n ≡ result_of (saidRefused r) → Answered numbers said out n out
-refused numbers said r values over out n p q = record { number = rw p (q ∙ alike r values over); out = rw p (kept r (numbers (saidBeside r values over)) out) }
+pub refused : (numbers : Said → List ℕ) (said : Said) (r : Refusal) (values : List ℕ) (over : Bool) (out : List ℕ) (n : ℕ) → said ≡ said_beside r values over → n ≡ result_of (said_refused r) → Answered numbers said out n out
+refused numbers said r values over out n p q = record { number = rw p (q ∙ alike r values over); out = rw p (kept r (numbers (said_beside r values over)) out) }
 
 -- a refusal's number and the cause above it make its result, which is small
-pub composed : (r : Refusal) → number_of r + 256 * get_or (values_of r []) 0 0 ≡ result_of (saidRefused r)
+pub composed : (r : Refusal) → number_of r + 256 * get_or (values_of r []) 0 0 ≡ result_of (said_refused r)
 composed Shape = refl
 composed Unsound = refl
 composed (Dead cause) = refl
@@ -86,7 +86,7 @@ few Sealed = (lit≤ tt, lit≤ tt)
 few OutOfRange = (lit≤ tt, lit≤ tt)
 
 -- from which both are read back: the low eight bits, and what stands above
-pub number-back : (r : Refusal) → result_of (saidRefused r) % 256 ≡ number_of r
+pub number-back : (r : Refusal) → result_of (said_refused r) % 256 ≡ number_of r
 number-back Shape = refl
 number-back Unsound = refl
 number-back (Dead NoSlot) = refl
@@ -103,7 +103,7 @@ number-back Version = refl
 number-back Sealed = refl
 number-back OutOfRange = refl
 
-pub cause-back : (r : Refusal) → result_of (saidRefused r) / 256 ≡ get_or (values_of r []) 0 0
+pub cause-back : (r : Refusal) → result_of (said_refused r) / 256 ≡ get_or (values_of r []) 0 0
 cause-back Shape = refl
 cause-back Unsound = refl
 cause-back (Dead NoSlot) = refl
@@ -128,8 +128,8 @@ small said n h = at (said.number == 3) (eq_is said.number 3)
     at true e = ((λ q. omega (arith, h)), λ q. omega (arith, h))
     at false d = ((λ q. q), λ q. q)
 
-pub zero-result : (said : Said) → (result_of said == 0) ≡ (said.number == 0)
-zero-result said = at (result_of said == 0) (said.number == 0) (eq_is (result_of said) 0) (eq_is said.number 0)
+pub zero_result : (said : Said) → (result_of said == 0) ≡ (said.number == 0)
+zero_result said = at (result_of said == 0) (said.number == 0) (eq_is (result_of said) 0) (eq_is said.number 0)
   where
     at : (a b : Bool) → Is (result_of said ≡ 0) a → Is (said.number ≡ 0) b → a ≡ b
     at true true r n = refl
@@ -138,7 +138,7 @@ zero-result said = at (result_of said == 0) (said.number == 0) (eq_is (result_of
     at false false r n = refl
 
 -- an accepted call writes it
-pub accepted : (numbers : Said → List ℕ) (said : Said) (values : List ℕ) (over : Bool) (out : List ℕ) → said ≡ saidAccepted values over → Answered numbers said out 0 (numbers (saidAccepted values over))
+pub accepted : (numbers : Said → List ℕ) (said : Said) (values : List ℕ) (over : Bool) (out : List ℕ) → said ≡ said_accepted values over → Answered numbers said out 0 (numbers (said_accepted values over))
 accepted numbers said values over out p = record { number = rw p; out = rw p }
 
 -- no second result and `out` fit

@@ -21,16 +21,16 @@ values said = said.values
 abbrev pub flag : Bool → ℕ
 flag b = if b then 1 else 0
 
-abbrev pub valuesOver : Said → List ℕ
-valuesOver said = said.values ++ flag said.over ∷ []
+abbrev pub values_over : Said → List ℕ
+values_over said = said.values ++ flag said.over ∷ []
 
 abbrev pub removal : (values : List ℕ) → (over : Bool) → List ℕ
 removal [] over = []
 removal (payload ∷ []) over = payload ∷ 0 ∷ 0 ∷ flag over ∷ []
 removal (payload ∷ value ∷ more) over = payload ∷ 1 ∷ value ∷ flag over ∷ []
 
-abbrev pub removalNumbers : Said → List ℕ
-removalNumbers said = removal said.values said.over
+abbrev pub removal_numbers : Said → List ℕ
+removal_numbers said = removal said.values said.over
 
 -- Ticket 5: the result of an answer is its number, and the cause of 3 stands above the low eight bits
 abbrev pub result_of : Said → ℕ

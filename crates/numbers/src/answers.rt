@@ -1,8 +1,8 @@
 // What an answer is at the host: the number as the result, with the cause of 3 above it, and its values in `out`, which a refusal leaves as it was.
 ghost use Rattle.std.specs.Prelude.{◌≡◌, Bool, [], get_or};
-ghost use Rattle.rules.specs.Refusals.{number_of, causeNumber, values_of, saidRefused};
-ghost use Rattle.rules.specs.Answers.{saidDone, saidNumber, saidSame, saidInserted, saidJoined, saidSeal, saidRemoved, saidOld};
-ghost use Rattle.numbers.specs.Numbers.{Answered, flag, result_of, values, valuesOver, removalNumbers};
+ghost use Rattle.rules.specs.Refusals.{number_of, cause_number, values_of, said_refused};
+ghost use Rattle.rules.specs.Answers.{said_done, said_number, said_same, said_inserted, said_joined, said_seal, said_removed, saidOld};
+ghost use Rattle.numbers.specs.Numbers.{Answered, flag, result_of, values, values_over, removal_numbers};
 
 use rules::{Cause, Done, Inserted, Joined, Number, Refusal, Removed, Rest, Same, Seal};
 
@@ -29,7 +29,7 @@ pub fn number_of(r: Refusal) -> u64
 
 // Ticket 5: the causes of 3.
 fn cause_number(cause: Cause) -> u64
-    ensures { result ≡ causeNumber cause }
+    ensures { result ≡ cause_number cause }
 {
     match cause {
         Cause::NoSlot => 1,
@@ -50,7 +50,7 @@ pub fn cause_of(r: Refusal) -> u64
 
 // Ticket 5: what a refusal has for a result, the cause of 3 above its number.
 fn result_of(r: Refusal) -> u64
-    ensures { result ≡ result_of (saidRefused r) }
+    ensures { result ≡ result_of (said_refused r) }
 {
     let cause = cause_of(r);
     number_of(r) + 256 * cause
@@ -68,7 +68,7 @@ fn number_if(b: bool) -> u64
 
 // An answer that has no values.
 pub fn plain(answer: Done) -> u64
-    ensures { (over : Bool) → Answered values (saidDone answer over) [] result [] }
+    ensures { (over : Bool) → Answered values (said_done answer over) [] result [] }
 {
     match answer {
         Done::Done => 0,
@@ -78,7 +78,7 @@ pub fn plain(answer: Done) -> u64
 
 // An answer with the overflow mark alone.
 pub fn over_only(answer: Done, over: bool, out: &mut [u64; 1]) -> u64
-    ensures { Answered valuesOver (saidDone answer over) out.old result out.new }
+    ensures { Answered values_over (said_done answer over) out.old result out.new }
 {
     match answer {
         Done::Done => {
@@ -91,7 +91,7 @@ pub fn over_only(answer: Done, over: bool, out: &mut [u64; 1]) -> u64
 
 // One number.
 pub fn number(answer: Number, out: &mut [u64; 1]) -> u64
-    ensures { (over : Bool) → Answered values (saidNumber answer over) out.old result out.new }
+    ensures { (over : Bool) → Answered values (said_number answer over) out.old result out.new }
 {
     match answer {
         Number::Is(n) => {
@@ -104,7 +104,7 @@ pub fn number(answer: Number, out: &mut [u64; 1]) -> u64
 
 // One number and the overflow mark.
 pub fn number_over(answer: Number, over: bool, out: &mut [u64; 2]) -> u64
-    ensures { Answered valuesOver (saidNumber answer over) out.old result out.new }
+    ensures { Answered values_over (said_number answer over) out.old result out.new }
 {
     match answer {
         Number::Is(n) => {
@@ -117,7 +117,7 @@ pub fn number_over(answer: Number, over: bool, out: &mut [u64; 2]) -> u64
 
 // Yes or no.
 pub fn same(answer: Same, out: &mut [u64; 1]) -> u64
-    ensures { Answered values (saidSame answer) out.old result out.new }
+    ensures { Answered values (said_same answer) out.old result out.new }
 {
     match answer {
         Same::Yes => {
@@ -134,7 +134,7 @@ pub fn same(answer: Same, out: &mut [u64; 1]) -> u64
 
 // The key of the frame that was put in.
 pub fn key(answer: Inserted, out: &mut [u64; 2]) -> u64
-    ensures { Answered values (saidInserted answer) out.old result out.new }
+    ensures { Answered values (said_inserted answer) out.old result out.new }
 {
     match answer {
         Inserted::At(key) => {
@@ -147,7 +147,7 @@ pub fn key(answer: Inserted, out: &mut [u64; 2]) -> u64
 
 // The removed shared value, the kept class's key, the number of class entries rewritten.
 pub fn joined(answer: Joined, out: &mut [u64; 4]) -> u64
-    ensures { Answered values (saidJoined answer) out.old result out.new }
+    ensures { Answered values (said_joined answer) out.old result out.new }
 {
     match answer {
         Joined::Into { was, kept, moved } => {
@@ -160,7 +160,7 @@ pub fn joined(answer: Joined, out: &mut [u64; 4]) -> u64
 
 // The header's value and count.
 pub fn sealed(answer: Seal, out: &mut [u64; 2]) -> u64
-    ensures { Answered values (saidSeal answer) out.old result out.new }
+    ensures { Answered values (said_seal answer) out.old result out.new }
 {
     match answer {
         Seal::Is { value, count } => {
@@ -173,7 +173,7 @@ pub fn sealed(answer: Seal, out: &mut [u64; 2]) -> u64
 
 // The payload, whether it was the run's last frame, then the shared value, and the overflow mark.
 pub fn removed(answer: Removed, over: bool, out: &mut [u64; 4]) -> u64
-    ensures { Answered removalNumbers (saidRemoved answer over) out.old result out.new }
+    ensures { Answered removal_numbers (said_removed answer over) out.old result out.new }
 {
     match answer {
         Removed::Out { payload, rest } => {

@@ -1,10 +1,10 @@
 // Compression that keeps the slot order and tells the new keys (Ticket 3), at the inner door: in place, linear and without scratch.
 // Ported from compress_with of impl_surject_arena_trait.rs (triple_arena 0.15.1, NOTICE).
 ghost use Rattle.std.specs.Prelude.{◌≡◌};
-ghost use Rattle.rules.specs.Tables.{state_of, elemSide, sharedSide};
-ghost use Rattle.rules.specs.Answers.{afterNumber};
-ghost use Rattle.rules.specs.Calls.{Ready, step, compressWith};
-ghost use Rattle.rules.specs.Compress.{renumbered, liveSlots};
+ghost use Rattle.rules.specs.Tables.{state_of, elem_side, shared_side};
+ghost use Rattle.rules.specs.Answers.{after_number};
+ghost use Rattle.rules.specs.Calls.{Ready, step, compress_with};
+ghost use Rattle.rules.specs.Compress.{renumbered, live_slots};
 
 use compress::{pack, renew};
 use ranks::{PAIR_WIDTH, rank, rename, settle, tell};
@@ -15,7 +15,7 @@ use rules::{
 // Both tables. Every frame gets a new generation, and a live header's next free number is 0: they hold the ranks meanwhile.
 fn renumber(head: Head, elems: &mut [u64], shared: &mut [u64], generation: u64)
     requires { Ready (state_of head elems.old shared.old) }
-    ensures { state_of head elems.new shared.new ≡ (let st = state_of head elems.old shared.old in let to = renumbered st (liveSlots (elemSide st)) (liveSlots (sharedSide st)) generation in state_of head to.elems to.shared) }
+    ensures { state_of head elems.new shared.new ≡ (let st = state_of head elems.old shared.old in let to = renumbered st (live_slots (elem_side st)) (live_slots (shared_side st)) generation in state_of head to.elems to.shared) }
 {
     let frames = head.elems.extent;
     let headers = head.shared.extent;
@@ -35,7 +35,7 @@ pub fn compress_with(
     reset: bool,
 ) -> HeadNumber
     requires { Ready (state_of head elems.old shared.old) }
-    ensures { afterNumber result elems.new shared.new pairs.new ≡ step (state_of head elems.old shared.old) pairs.old (compressWith reset) }
+    ensures { after_number result elems.new shared.new pairs.new ≡ step (state_of head elems.old shared.old) pairs.old (compress_with reset) }
 {
     let live = head.elems.live;
     if (pairs.len() as u64) < live * PAIR_WIDTH {

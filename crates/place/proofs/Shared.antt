@@ -5,10 +5,10 @@ use Prim.Native.Nat.{ℕ, zero, suc, ◌+◌, ◌*◌, ◌-◌, ◌≤◌, ◌<�
 use native.Mathlib.Omega.{arith}
 use native.Mathlib.Decide.{dec_lt}
 use lib.ListN.{length, get_or, get_or-eq_default}
-use Rattle.rules.specs.Tables.{frameWidth, headerWidth, header_at, cell, class_of, count_of}
+use Rattle.rules.specs.Tables.{frame_width, header_width, header_at, cell, class_of, count_of}
 use Rattle.slots.specs.Asked.{Within}
 use Rattle.copies.specs.Parts.{Zeroed}
-use Rattle.swaps.specs.Swaps.{Beside, slotIn, Permuting, Permuted}
+use Rattle.swaps.specs.Swaps.{Beside, slot_in, Permuting, Permuted}
 use Rattle.place.specs.Headers.{start, begins, named, counted, Blocks, Noted, Counted, Recovered, Placeable, Placed}
 use Rattle.swaps.proofs.Exchanges.{beside_trans}
 
@@ -31,11 +31,11 @@ module _ (m : ℕ) (e s : List ℕ) (P : Placeable m e s) where
 
     -- after pass 2
     module _ (e₂ s₂ : List ℕ) (Q : Permuted m e₁ s e₂ s₂) where
-      headers-are : (k : ℕ) → k < m → slotIn headerWidth s₂ (suc k) ≡ slotIn headerWidth s (named e s k)
-      headers-are k l = Q.brought (suc k) (omega arith) l ∙ ap (slotIn headerWidth s) (N.noted k l)
+      headers_are : (k : ℕ) → k < m → slot_in header_width s₂ (suc k) ≡ slot_in header_width s (named e s k)
+      headers_are k l = Q.brought (suc k) (omega arith) l ∙ ap (slot_in header_width s) (N.noted k l)
 
       count-is : (k : ℕ) → k < m → count_of s₂ (suc k) ≡ count_of s (named e s k)
-      count-is k l = λ i. headers-are k l i header_at.count (omega arith)
+      count-is k l = λ i. headers_are k l i header_at.count (omega arith)
 
       -- the counts give the blocks again
       starts : (k : ℕ) → k ≤ m → counted s₂ k ≡ begins e s k
@@ -50,12 +50,12 @@ module _ (m : ℕ) (e s : List ℕ) (P : Placeable m e s) where
       }
 
       -- after pass 3, and the rest zeroed
-      module _ (e₃ s₃ : List ℕ) (Y : Recovered m e₂ s₂ e₃) (Z : Zeroed s₂ (m * headerWidth) (length s₂) s₃) where
-        cell_same : (f k : ℕ) → f < headerWidth → k < m → cell headerWidth s₃ f (suc k) ≡ cell headerWidth s₂ f (suc k)
+      module _ (e₃ s₃ : List ℕ) (Y : Recovered m e₂ s₂ e₃) (Z : Zeroed s₂ (m * header_width) (length s₂) s₃) where
+        cell_same : (f k : ℕ) → f < header_width → k < m → cell header_width s₃ f (suc k) ≡ cell header_width s₂ f (suc k)
         unfolding cell
-        cell_same f k h l = Z.below (k * headerWidth + f) (omega arith)
+        cell_same f k h l = Z.below (k * header_width + f) (omega arith)
 
-        zeros : (j : ℕ) → m * headerWidth ≤ j → Dec (j < length s₂) → get_or s₃ j 0 ≡ 0
+        zeros : (j : ℕ) → m * header_width ≤ j → Dec (j < length s₂) → get_or s₃ j 0 ≡ 0
         zeros j a (yes d) = Z.within j a d
         zeros j a (no d) = get_or-eq_default s₃ 0 (rw Z.long (omega arith))
 
@@ -65,6 +65,6 @@ module _ (m : ℕ) (e s : List ℕ) (P : Placeable m e s) where
           class = λ k l t a b. Y.hit k l t (rw (starts k (omega arith)) a) (rw (starts (suc k) l) b);
           past = λ t a. let d : m < t = omega (arith, P.past) in Y.past t (rw (starts m (omega arith)) a) ∙ Q.past t d ∙ N.past t d;
           long = Z.long ∙ Q.long;
-          headers = λ k l. λ i. λ f h. (cell_same f k h l ∙ (λ j. headers-are k l j f h)) i;
+          headers = λ k l. λ i. λ f h. (cell_same f k h l ∙ (λ j. headers_are k l j f h)) i;
           zeros = λ j a. zeros j a (dec_lt j (length s₂));
         }

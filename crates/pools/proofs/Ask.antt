@@ -24,5 +24,5 @@ pub row_in : (x n w k : ℕ) → x ≤ n → n * w ≤ k → x * w ≤ k
 row_in x n w k h l = omega (arith, mul-le-mul_right w h)
 
 -- the slots up to the extent, within a table that is as long as its capacity says
-pub extent-in : (extent capacity w k : ℕ) → extent ≤ capacity → k ≡ capacity * w → extent * w ≤ k
-extent-in extent capacity w k h e = rw e (mul-le-mul_right w h)
+pub extent_in : (extent capacity w k : ℕ) → extent ≤ capacity → k ≡ capacity * w → extent * w ≤ k
+extent_in extent capacity w k h e = rw e (mul-le-mul_right w h)

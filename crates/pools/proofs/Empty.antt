@@ -8,12 +8,12 @@ use native.Mathlib.Decide.{ℕ_discrete, dec_lt}
 use lib.ListN.{length, get_or, get_or-eq_default}
 use lib.Bits.{bit_or, or_add_and, and_le_l, and_le_r}
 use Rattle.rules.specs.Tables.{cell}
-use Rattle.rules.proofs.laws.Chains.{Both}
+use Rattle.rules.proofs.Laws.Chains.{Both}
 use Rattle.pools.specs.Pools.{Zeros}
 
 -- ---- the loop that gathers them
-or-none : (a b : ℕ) → bit_or a b ≡ 0 → (a ≡ 0) × (b ≡ 0)
-or-none a b e = (omega (arith, or_add_and a b, and_le_r a b), omega (arith, or_add_and a b, and_le_l a b))
+or_none : (a b : ℕ) → bit_or a b ≡ 0 → (a ≡ 0) × (b ≡ 0)
+or_none a b e = (omega (arith, or_add_and a b, and_le_r a b), omega (arith, or_add_and a b, and_le_l a b))
 
 abbrev pub ZeroTo : List ℕ → ℕ → ℕ → Type 0
 ZeroTo t from to = (i : ℕ) → from ≤ i → i < to → get_or t i 0 ≡ 0
@@ -22,8 +22,8 @@ pub zero_more : (t : List ℕ) (from i any : ℕ) → from ≤ i → Both (any �
 zero_more t from i any l b = (λ e j lo hi. more e j lo hi (ℕ_discrete j i), λ z. rw (b.1 (λ j lo hi. z j lo (omega arith)), z i l (omega arith)) refl)
   where
     more : bit_or any (get_or t i 0) ≡ 0 → (j : ℕ) → from ≤ j → j < i + 1 → Dec (j ≡ i) → get_or t j 0 ≡ 0
-    more e j lo hi (yes q) = rw q (or-none any (get_or t i 0) e).1
-    more e j lo hi (no q) = b.0 (or-none any (get_or t i 0) e).0 j lo (omega arith)
+    more e j lo hi (yes q) = rw q (or_none any (get_or t i 0) e).1
+    more e j lo hi (no q) = b.0 (or_none any (get_or t i 0) e).0 j lo (omega arith)
 
 pub zero-past : (t : List ℕ) (from i : ℕ) → length t ≤ i → ZeroTo t from i → Zeros t from
 zero-past t from i l z j lo = go (dec_lt j i)

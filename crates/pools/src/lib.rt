@@ -1,8 +1,8 @@
 // The soundness check of one table: its extent, its free chain, zeros past the extent; and the shared slots.
 ghost use Rattle.std.specs.Prelude.{◌*◌, ◌≤◌, ◌<◌, length};
-ghost use Rattle.rules.specs.Tables.{cell, headerWidth};
+ghost use Rattle.rules.specs.Tables.{cell, header_width};
 ghost use Rattle.rules.specs.Calls.{Is};
-ghost use Rattle.rules.proofs.laws.Chains.{Linked};
+ghost use Rattle.rules.proofs.Laws.Chains.{Linked};
 ghost use Rattle.pools.specs.Pools.{Zeros, Roomy, PoolOk, Headers};
 
 use rules::{COUNT, HEADER, MARK, NEXT_FREE, Pool, TOTAL, VALUE};
@@ -74,7 +74,7 @@ pub fn pool_ok(p: Pool, t: &[u64], width: u64, link: u64) -> bool
 
 // Sound 6 of the shared slots, and Ticket 1 of their marks.
 pub fn headers_ok(s: &[u64], extent: u64) -> bool
-    requires { extent * headerWidth ≤ length s.now }
+    requires { extent * header_width ≤ length s.now }
     ensures { Is (Headers s.now extent) result }
 {
     let mut i: u64 = 0;

@@ -4,7 +4,7 @@ use Rattle.rules.specs.declared.Key.{Key}
 use Rattle.rules.specs.Notation.{if◌then◌else◌, ◌==◌}
 use Rattle.rules.specs.Tables.{State, state_of}
 use Rattle.rules.specs.Refusals.{Said, Outcome}
-use Rattle.rules.specs.Calls.{Call, AtDoor, freshStep}
+use Rattle.rules.specs.Calls.{Call, AtDoor, fresh_step}
 use Rattle.rules.specs.ReadFile.{read_step}
 use Rattle.numbers.specs.Numbers.{head_of, values, result_of}
 
@@ -42,8 +42,8 @@ pub record AtHost (c : Call) (numbers : Said → List ℕ) (head elems shared le
   pub same : after ≡ shown numbers out outcome
 
 -- The promise of fresh, which has no door but its own
-pub record AtFresh (elemCapacity sharedCapacity : ℕ) (head elems shared : List ℕ) (after : Left) : Type 0 where
-  pub same : after ≡ shown values [] (freshStep (state_of (head_of head) elems shared) elemCapacity sharedCapacity)
+pub record AtFresh (elem_capacity shared_capacity : ℕ) (head elems shared : List ℕ) (after : Left) : Type 0 where
+  pub same : after ≡ shown values [] (fresh_step (state_of (head_of head) elems shared) elem_capacity shared_capacity)
 
 -- Ticket 11: the promise of the reader, which has no door but its own either
 pub record AtRead (file head elems shared : List ℕ) (after : Left) : Type 0 where

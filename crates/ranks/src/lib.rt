@@ -1,7 +1,7 @@
 // Slots renumbered in slot order, in place and without scratch (Ticket 3): a rank is kept in a number of the slot that is written anew anyway.
 ghost use Rattle.std.specs.Prelude.{◌≡◌, [], ◌∷◌, ◌<◌, ◌≤◌};
-ghost use Rattle.rules.specs.Tables.{mostSlots, row};
-ghost use Rattle.rules.specs.Compress.{pairWidth};
+ghost use Rattle.rules.specs.Tables.{most_slots, row};
+ghost use Rattle.rules.specs.Compress.{pair_width};
 ghost use Rattle.slots.specs.Asked.{Within};
 ghost use Rattle.ranks.specs.Passes.{Fields, RankOne, Ranked, RenameOne, Renameable, Followed, Renamed, Shifted, PackOne, Packed, Settled, Room, Tellable, TellOne, Told};
 
@@ -9,12 +9,12 @@ use copies::zero;
 use rules::{CLASS, FRAME, GENERATION, HEADER, NEXT, NEXT_FREE, PREVIOUS};
 use slots::{get, put};
 
-// Numbers to a pair of keys: old slot, old generation, new slot, new generation; in the rules, pairWidth.
+// Numbers to a pair of keys: old slot, old generation, new slot, new generation; in the rules, pair_width.
 pub const PAIR_WIDTH: u64 = 4;
 
 // One slot: if it is live, its field `into` becomes its rank, one more than the live slots before it. The answer is the number of live slots by now.
 fn rank_one(t: &mut [u64], width: u64, used: u64, into: u64, slot: u64, ranked: u64) -> u64
-    requires { Within width t.old slot × (used < width) × (into < width) × (ranked < mostSlots) }
+    requires { Within width t.old slot × (used < width) × (into < width) × (ranked < most_slots) }
     ensures { RankOne width t.old used into slot ranked t.new result }
 {
     let live = get(t, width, used, slot);
@@ -93,7 +93,7 @@ fn pack_one(
     slot: u64,
     packed: u64,
 ) -> u64
-    requires { Within width t.old slot × (used < width) × (into < width) × (packed < slot) × (slot ≤ mostSlots) }
+    requires { Within width t.old slot × (used < width) × (into < width) × (packed < slot) × (slot ≤ most_slots) }
     ensures { PackOne width t.old used into value slot packed t.new result }
 {
     let live = get(t, width, used, slot);
@@ -121,7 +121,7 @@ fn pack(t: &mut [u64], width: u64, used: u64, into: u64, value: u64, slots: u64)
 
 // And what is left of these slots is zeroed.
 pub fn settle(t: &mut [u64], width: u64, used: u64, into: u64, value: u64, slots: u64)
-    requires { Fields width t.old used into slots × (width ≤ mostSlots) }
+    requires { Fields width t.old used into slots × (width ≤ most_slots) }
     ensures { Settled width t.old used into value slots t.new }
 {
     let packed = pack(t, width, used, into, value, slots);
@@ -130,8 +130,8 @@ pub fn settle(t: &mut [u64], width: u64, used: u64, into: u64, value: u64, slots
 
 // A place of the output: old key and new key (docs/LAYOUT.md).
 fn write_pair(out: &mut [u64], place: u64, slot: u64, generation: u64, rank: u64, given: u64)
-    requires { Within pairWidth out.old place }
-    ensures { out.new ≡ row pairWidth out.old place (slot ∷ generation ∷ rank ∷ given ∷ []) }
+    requires { Within pair_width out.old place }
+    ensures { out.new ≡ row pair_width out.old place (slot ∷ generation ∷ rank ∷ given ∷ []) }
 {
     put(out, PAIR_WIDTH, place, 0, slot);
     put(out, PAIR_WIDTH, place, 1, generation);

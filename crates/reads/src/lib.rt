@@ -2,8 +2,8 @@
 // Ported from len_surject, in_same_surject and get_shared of surject_arena.rs (triple_arena 0.15.1, NOTICE).
 ghost use Rattle.std.specs.Prelude.{◌≡◌, false, []};
 ghost use Rattle.rules.specs.Tables.{state_of};
-ghost use Rattle.rules.specs.Calls.{Ready, step, lenSurject, inSameSurject, getElement, getShared, getSize, getTotal, lookup};
-ghost use Rattle.rules.specs.Answers.{leaves, saidDone, saidNumber, saidSame};
+ghost use Rattle.rules.specs.Calls.{Ready, step, len_surject, in_same_surject, get_element, get_shared, get_size, get_total, lookup};
+ghost use Rattle.rules.specs.Answers.{leaves, said_done, said_number, said_same};
 
 use rules::{
     CLASS, COUNT, Done, FRAME, Found, HEADER, Head, Key, Number, PAYLOAD, Refusal, SIZE, Same,
@@ -13,7 +13,7 @@ use rules::{
 // The number of frames in the key's class.
 pub fn len_surject(head: Head, elems: &[u64], shared: &[u64], key: Key) -> Number
     requires { Ready (state_of head elems.now shared.now) }
-    ensures { leaves head elems.now shared.now [] (saidNumber result false) ≡ step (state_of head elems.now shared.now) [] (lenSurject key) }
+    ensures { leaves head elems.now shared.now [] (said_number result false) ≡ step (state_of head elems.now shared.now) [] (len_surject key) }
 {
     let x = match slots::find(head, elems, key) {
         Found::Live(x) => x,
@@ -26,7 +26,7 @@ pub fn len_surject(head: Head, elems: &[u64], shared: &[u64], key: Key) -> Numbe
 // Whether both keys have one class slot.
 pub fn in_same_surject(head: Head, elems: &[u64], shared: &[u64], j: Key, k: Key) -> Same
     requires { Ready (state_of head elems.now shared.now) }
-    ensures { leaves head elems.now shared.now [] (saidSame result) ≡ step (state_of head elems.now shared.now) [] (inSameSurject j k) }
+    ensures { leaves head elems.now shared.now [] (said_same result) ≡ step (state_of head elems.now shared.now) [] (in_same_surject j k) }
 {
     let x = match slots::find(head, elems, j) {
         Found::Live(x) => x,
@@ -46,7 +46,7 @@ pub fn in_same_surject(head: Head, elems: &[u64], shared: &[u64], j: Key, k: Key
 // The payload.
 pub fn get(head: Head, elems: &[u64], shared: &[u64], key: Key) -> Number
     requires { Ready (state_of head elems.now shared.now) }
-    ensures { leaves head elems.now shared.now [] (saidNumber result false) ≡ step (state_of head elems.now shared.now) [] (getElement key) }
+    ensures { leaves head elems.now shared.now [] (said_number result false) ≡ step (state_of head elems.now shared.now) [] (get_element key) }
 {
     let x = match slots::find(head, elems, key) {
         Found::Live(x) => x,
@@ -58,7 +58,7 @@ pub fn get(head: Head, elems: &[u64], shared: &[u64], key: Key) -> Number
 // The class's value.
 pub fn get_shared(head: Head, elems: &[u64], shared: &[u64], key: Key) -> Number
     requires { Ready (state_of head elems.now shared.now) }
-    ensures { leaves head elems.now shared.now [] (saidNumber result false) ≡ step (state_of head elems.now shared.now) [] (getShared key) }
+    ensures { leaves head elems.now shared.now [] (said_number result false) ≡ step (state_of head elems.now shared.now) [] (get_shared key) }
 {
     let x = match slots::find(head, elems, key) {
         Found::Live(x) => x,
@@ -71,7 +71,7 @@ pub fn get_shared(head: Head, elems: &[u64], shared: &[u64], key: Key) -> Number
 // Ticket 6: the frame's size.
 pub fn get_size(head: Head, elems: &[u64], shared: &[u64], key: Key) -> Number
     requires { Ready (state_of head elems.now shared.now) }
-    ensures { leaves head elems.now shared.now [] (saidNumber result false) ≡ step (state_of head elems.now shared.now) [] (getSize key) }
+    ensures { leaves head elems.now shared.now [] (said_number result false) ≡ step (state_of head elems.now shared.now) [] (get_size key) }
 {
     let x = match slots::find(head, elems, key) {
         Found::Live(x) => x,
@@ -83,7 +83,7 @@ pub fn get_size(head: Head, elems: &[u64], shared: &[u64], key: Key) -> Number
 // Ticket 6: the total of its run.
 pub fn get_total(head: Head, elems: &[u64], shared: &[u64], key: Key) -> Number
     requires { Ready (state_of head elems.now shared.now) }
-    ensures { leaves head elems.now shared.now [] (saidNumber result false) ≡ step (state_of head elems.now shared.now) [] (getTotal key) }
+    ensures { leaves head elems.now shared.now [] (said_number result false) ≡ step (state_of head elems.now shared.now) [] (get_total key) }
 {
     let x = match slots::find(head, elems, key) {
         Found::Live(x) => x,
@@ -96,7 +96,7 @@ pub fn get_total(head: Head, elems: &[u64], shared: &[u64], key: Key) -> Number
 // Ticket 5: whether the key is live, and why not.
 pub fn lookup(head: Head, elems: &[u64], shared: &[u64], key: Key) -> Done
     requires { Ready (state_of head elems.now shared.now) }
-    ensures { leaves head elems.now shared.now [] (saidDone result false) ≡ step (state_of head elems.now shared.now) [] (lookup key) }
+    ensures { leaves head elems.now shared.now [] (said_done result false) ≡ step (state_of head elems.now shared.now) [] (lookup key) }
 {
     match slots::find(head, elems, key) {
         Found::Live(_) => Done::Done,

@@ -3,7 +3,7 @@ use Rattle.std.specs.Prelude.{ℕ, ◌≤◌, ◌≡◌, List}
 use Rattle.rules.specs.declared.Head.{Head}
 use Rattle.rules.specs.declared.Rest.TheVariants.{GoesOn, Last}
 use Rattle.rules.specs.Notation.{if◌then◌else◌, ◌==◌}
-use Rattle.rules.specs.Tables.{headerWidth, payloadOf, count_of, value_of, total_of, State, state_of}
+use Rattle.rules.specs.Tables.{header_width, payload_of, count_of, value_of, total_of, State, state_of}
 use Rattle.rules.specs.Slots.{overflows}
 use Rattle.rules.specs.Runs.{left, removed, rest_of}
 use Rattle.slots.specs.Asked.{Within}
@@ -12,7 +12,7 @@ use Rattle.removes.specs.declared.Removal.{Removal}
 
 -- a class that a frame can leave
 pub record Leaves (h : Head) (s : List ℕ) (class size : ℕ) : Type 0 where
-  pub header : Within headerWidth s class
+  pub header : Within header_width s class
   pub count : 1 ≤ count_of s class
   pub live : 1 ≤ h.shared.live
   pub total : size ≤ total_of s class
@@ -25,6 +25,6 @@ pub record LeftClass (st : State) (class size : ℕ) (r : Left) (s : List ℕ) :
 -- the frame in `x` is taken out
 pub record RemovedAt (st : State) (x : ℕ) (r : Removal) (e s : List ℕ) : Type 0 where
   pub state : state_of r.head e s ≡ removed st x
-  pub payload : r.payload ≡ payloadOf st.elems x
+  pub payload : r.payload ≡ payload_of st.elems x
   pub rest : r.rest ≡ rest_of st x
   pub over : r.over ≡ overflows st

@@ -3,7 +3,7 @@
 ghost use Rattle.std.specs.Prelude.{◌≡◌, List, [], ℕ};
 ghost use Rattle.rules.specs.Tables.{state_of};
 ghost use Rattle.rules.specs.Calls.{Ready, step, remove};
-ghost use Rattle.rules.specs.Answers.{afterRemoved};
+ghost use Rattle.rules.specs.Answers.{after_removed};
 ghost use Rattle.slots.specs.Asked.{OnLive};
 ghost use Rattle.removes.specs.Removal.{Leaves, LeftClass, RemovedAt};
 
@@ -76,7 +76,7 @@ pub fn remove_at(head: Head, elems: &mut [u64], shared: &mut [u64], x: u64) -> R
 // Rules 7, remove.
 pub fn remove_element(head: Head, elems: &mut [u64], shared: &mut [u64], key: Key) -> HeadRemoved
     requires { Ready (state_of head elems.old shared.old) }
-    ensures { afterRemoved result elems.new shared.new [] ≡ step (state_of head elems.old shared.old) [] (remove key) }
+    ensures { after_removed result elems.new shared.new [] ≡ step (state_of head elems.old shared.old) [] (remove key) }
 {
     let x = match slots::find(head, elems, key) {
         Found::Live(x) => x,

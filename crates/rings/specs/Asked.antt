@@ -1,7 +1,7 @@
 -- What a walk round a ring asks.
 use Rattle.std.specs.Prelude.{ℕ, ◌≡◌, List, length}
-use Rattle.rules.specs.Tables.{frameWidth, next_of}
-use Rattle.rules.proofs.laws.Lists.{All, NoDup, Walk}
+use Rattle.rules.specs.Tables.{frame_width, next_of}
+use Rattle.rules.proofs.Laws.Lists.{All, NoDup, Walk}
 use Rattle.slots.specs.Asked.{Within}
 
 -- `n` frames along next from `x` stand in the table, none twice
@@ -10,5 +10,5 @@ pub record Apart (e : List ℕ) (n x : ℕ) : Type 0 where
   pub end : ℕ
   pub walk : Walk (next_of e) x end slots
   pub once : NoDup slots
-  pub each : All (Within frameWidth e) slots
+  pub each : All (Within frame_width e) slots
   pub sized : length slots ≡ n

@@ -1,9 +1,9 @@
 // Rules 8: remove shared.
 ghost use Rattle.std.specs.Prelude.{◌≡◌, List, [], ℕ, ◌≤◌};
 ghost use Rattle.rules.specs.Tables.{state_of};
-ghost use Rattle.rules.specs.Drains.{freeRing};
-ghost use Rattle.rules.specs.Calls.{Ready, step, removeShared};
-ghost use Rattle.rules.specs.Answers.{afterNumber};
+ghost use Rattle.rules.specs.Drains.{free_ring};
+ghost use Rattle.rules.specs.Calls.{Ready, step, remove_shared};
+ghost use Rattle.rules.specs.Answers.{after_number};
 ghost use Rattle.rings.specs.Asked.{Apart};
 
 use rules::{
@@ -13,7 +13,7 @@ use rules::{
 // `n` frames along next from `x` are freed.
 fn free_ring(head: Head, elems: &mut [u64], n: u64, x: u64) -> Head
     requires { Apart elems.old n x × (n ≤ head.elems.live) }
-    ensures { (s : List ℕ) → state_of result elems.new s ≡ freeRing n (state_of head elems.old s) x }
+    ensures { (s : List ℕ) → state_of result elems.new s ≡ free_ring n (state_of head elems.old s) x }
 {
     let mut next = head;
     let mut left = n;
@@ -30,7 +30,7 @@ fn free_ring(head: Head, elems: &mut [u64], n: u64, x: u64) -> Head
 // The whole run is taken out, and the generation rises once.
 pub fn remove_shared(head: Head, elems: &mut [u64], shared: &mut [u64], key: Key) -> HeadNumber
     requires { Ready (state_of head elems.old shared.old) }
-    ensures { afterNumber result elems.new shared.new [] ≡ step (state_of head elems.old shared.old) [] (removeShared key) }
+    ensures { after_number result elems.new shared.new [] ≡ step (state_of head elems.old shared.old) [] (remove_shared key) }
 {
     let x = match slots::find(head, elems, key) {
         Found::Live(x) => x,

@@ -2,17 +2,17 @@
 ghost use Rattle.std.specs.Prelude.{◌≡◌, false, [], ◌∷◌, ◌*◌, ◌≤◌, length};
 ghost use Rattle.std.proofs.lemmas.List.Edits.{sets};
 ghost use Rattle.rules.specs.Tables.{row, state_of, size_at};
-ghost use Rattle.rules.specs.Drains.{keyWidth};
+ghost use Rattle.rules.specs.Drains.{key_width};
 ghost use Rattle.rules.specs.Calls as calls;
 ghost use Rattle.rules.specs.Calls.{Ready, step};
-ghost use Rattle.rules.specs.Answers.{leaves, saidNumber};
+ghost use Rattle.rules.specs.Answers.{leaves, said_number};
 ghost use Rattle.slots.specs.Asked.{Within, Along};
 ghost use Rattle.slots.specs.Asked.{OnLive};
-ghost use Rattle.rings.specs.Answered.{keysAlong};
+ghost use Rattle.rings.specs.Answered.{keys_along};
 
 use rules::{CLASS, COUNT, FRAME, Found, GENERATION, HEADER, Head, Key, NEXT, Number, Refusal};
 
-// Numbers to a place of a list (docs/LAYOUT.md); in the rules, keyWidth.
+// Numbers to a place of a list (docs/LAYOUT.md); in the rules, key_width.
 pub const KEY_WIDTH: u64 = 2;
 
 // The number of frames in the run of a live slot.
@@ -26,8 +26,8 @@ pub fn size_at(head: Head, elems: &[u64], shared: &[u64], x: u64) -> u64
 
 // A key is written at a place, counted from 1.
 fn write_key(out: &mut [u64], place: u64, slot: u64, generation: u64)
-    requires { Within keyWidth out.old place }
-    ensures { out.new ≡ row keyWidth out.old place (slot ∷ generation ∷ []) }
+    requires { Within key_width out.old place }
+    ensures { out.new ≡ row key_width out.old place (slot ∷ generation ∷ []) }
 {
     slots::put(out, KEY_WIDTH, place, 0, slot);
     slots::put(out, KEY_WIDTH, place, 1, generation);
@@ -35,8 +35,8 @@ fn write_key(out: &mut [u64], place: u64, slot: u64, generation: u64)
 
 // The keys of `n` frames along next from `x` are written, from the first place on.
 fn write_keys(elems: &[u64], n: u64, x: u64, out: &mut [u64])
-    requires { Along elems.now n x × (n * keyWidth ≤ length out.old) }
-    ensures { out.new ≡ sets out.old 0 (keysAlong elems.now n x) }
+    requires { Along elems.now n x × (n * key_width ≤ length out.old) }
+    ensures { out.new ≡ sets out.old 0 (keys_along elems.now n x) }
 {
     let mut left = n;
     let mut at = x;
@@ -53,7 +53,7 @@ fn write_keys(elems: &[u64], n: u64, x: u64, out: &mut [u64])
 // The keys of the run, in ring order from the given one.
 pub fn list(head: Head, elems: &[u64], shared: &[u64], key: Key, out: &mut [u64]) -> Number
     requires { Ready (state_of head elems.now shared.now) }
-    ensures { leaves head elems.now shared.now out.new (saidNumber result false) ≡ step (state_of head elems.now shared.now) out.old (calls.list key) }
+    ensures { leaves head elems.now shared.now out.new (said_number result false) ≡ step (state_of head elems.now shared.now) out.old (calls.list key) }
 {
     let x = match slots::find(head, elems, key) {
         Found::Live(x) => x,

@@ -14,22 +14,22 @@ use Rattle.rules.specs.declared.Found.TheVariants as lookup
 use Rattle.rules.specs.declared.Cause.TheVariants.{NoSlot, FreeSlot, OtherGeneration}
 use Rattle.rules.specs.declared.Refusal.TheVariants.{Shape, Unsound, Dead, SameClass, NoElement, NoShared, Short, Malformed, NoFile, Version, Nothing, Sealed, OutOfRange}
 use Rattle.rules.specs.Tables.{State}
-use Rattle.rules.specs.Refusals.{number_of, causeNumber, values_of}
-use Rattle.rules.specs.Calls.{Call, lenSurject, inSameSurject, getElement, getShared, getSize, getTotal, lookup, setElement, setShared, check, newRun, insert, union, remove, removeShared, list, drain, seal, drainAll, clear, undo, exchange, compress, compressWith, writeFile}
+use Rattle.rules.specs.Refusals.{number_of, cause_number, values_of}
+use Rattle.rules.specs.Calls.{Call, len_surject, in_same_surject, get_element, get_shared, get_size, get_total, lookup, set_element, set_shared, check, new_run, insert, union, remove, remove_shared, list, drain, seal, drain_all, clear, undo, exchange, compress, compress_with, write_file}
 use Rattle.rules.specs.Exact.{Asks, asks, Why, sooner, Because, Sentence, earlier, Given, Accepted}
 use Rattle.rules.proofs.Cases.{rules, key, pool, at, e, s, m}
-use Rattle.rules.proofs.Worked.{three, four, joined, goesOn, single}
+use Rattle.rules.proofs.Worked.{three, four, joined, goes_on, single}
 use Rattle.rules.proofs.CasesDead.{holed}
 use Rattle.rules.proofs.Apart.{none}
-use Rattle.rules.proofs.Sounds.{trap, trap-unsound, three-sound}
+use Rattle.rules.proofs.Sounds.{trap, trap_unsound, three_sound}
 
 -- keys, whether two may not be in one class, whether none may be sealed, whether a shared slot and an element slot are needed, and how many numbers lent
 abbrev want : List Key → (apart unsealed shared element : Bool) → (numbers : ℕ) → Asks
 want keys apart unsealed shared element numbers = record { back = false; keys = keys; apart = apart; unsealed = unsealed; shared = shared; element = element; numbers = numbers }
 
 -- a union to take back
-abbrev wantBack : Asks
-wantBack = record { back = true; keys = []; apart = false; unsealed = false; shared = false; element = false; numbers = 0 }
+abbrev want_back : Asks
+want_back = record { back = true; keys = []; apart = false; unsealed = false; shared = false; element = false; numbers = 0 }
 
 abbrev a : Key
 a = key 2 1
@@ -37,8 +37,8 @@ a = key 2 1
 abbrev b : Key
 b = key 1 1
 
-pub asked : map (asks goesOn) (lenSurject a ∷ inSameSurject a b ∷ getElement a ∷ getShared a ∷ getSize a ∷ getTotal a ∷ lookup a ∷ setElement a 9 ∷ setShared a 9 ∷ check ∷ newRun 9 9 0 ∷ insert a 9 0 ∷ union a b ∷ remove a ∷ removeShared a ∷ list a ∷ drain a ∷ seal a ∷ clear ∷ undo ∷ exchange (a ∷ b ∷ []) (9 ∷ 9 ∷ []) ∷ drainAll ∷ [])
-    ++ map (asks single) (compress true ∷ compressWith true ∷ []) ++ asks four writeFile ∷ []
+pub asked : map (asks goes_on) (len_surject a ∷ in_same_surject a b ∷ get_element a ∷ get_shared a ∷ get_size a ∷ get_total a ∷ lookup a ∷ set_element a 9 ∷ set_shared a 9 ∷ check ∷ new_run 9 9 0 ∷ insert a 9 0 ∷ union a b ∷ remove a ∷ remove_shared a ∷ list a ∷ drain a ∷ seal a ∷ clear ∷ undo ∷ exchange (a ∷ b ∷ []) (9 ∷ 9 ∷ []) ∷ drain_all ∷ [])
+    ++ map (asks single) (compress true ∷ compress_with true ∷ []) ++ asks four write_file ∷ []
     ≡ want (a ∷ []) false false false false 0
     ∷ want (a ∷ b ∷ []) false false false false 0
     ∷ want (a ∷ []) false false false false 0
@@ -58,7 +58,7 @@ pub asked : map (asks goesOn) (lenSurject a ∷ inSameSurject a b ∷ getElement
     ∷ want (a ∷ []) false false false false 18
     ∷ want (a ∷ []) false true false false 9
     ∷ want [] false false false false 0
-    ∷ wantBack
+    ∷ want_back
     ∷ want (a ∷ b ∷ []) true false false false 0
     ∷ want [] false false false false 18
     ∷ want [] false false false false 24
@@ -131,33 +131,33 @@ unfolding rules
 shape = (refl, true≢false)
 
 pub unsound : Sentence trap [] nothing Unsound × (Sentence three [] nothing Unsound → ⊥)
-unsound = ((λ w. trap-unsound w.0), λ n. n (three-sound, inl refl))
+unsound = ((λ w. trap_unsound w.0), λ n. n (three_sound, inl refl))
 
 -- why: slot 0, past the extent, free, another generation
 pub why : Why holed (key 0 5) NoSlot × Why holed (key 4 5) NoSlot × Why holed (key 2 5) FreeSlot × Why holed (key 1 6) OtherGeneration
 unfolding rules
 why = (inl refl, inr (lit< tt), refl, λ z. omega (arith, z))
 
-pub not-why : (Why holed (key 3 6) NoSlot → ⊥) × (Why holed (key 1 5) FreeSlot → ⊥) × (Why holed (key 1 5) OtherGeneration → ⊥)
+pub not_why : (Why holed (key 3 6) NoSlot → ⊥) × (Why holed (key 1 5) FreeSlot → ⊥) × (Why holed (key 1 5) OtherGeneration → ⊥)
 unfolding rules
-not-why = (go, (λ z. omega (arith, z)), λ n. n refl)
+not_why = (go, (λ z. omega (arith, z)), λ n. n refl)
   where
     go : Why holed (key 3 6) NoSlot → ⊥
     go (inl z) = omega (arith, z)
     go (inr h) = omega (arith, h)
 
-pub sooner-ones : map (λ c. map causeNumber (sooner c)) (NoSlot ∷ FreeSlot ∷ OtherGeneration ∷ []) ≡ [] ∷ (1 ∷ []) ∷ (1 ∷ 2 ∷ []) ∷ []
-sooner-ones = refl
+pub sooner_ones : map (λ c. map cause_number (sooner c)) (NoSlot ∷ FreeSlot ∷ OtherGeneration ∷ []) ≡ [] ∷ (1 ∷ []) ∷ (1 ∷ 2 ∷ []) ∷ []
+sooner_ones = refl
 
 -- not its own sentence, and a sooner one too
-pub not-because : (Because holed (key 1 5) OtherGeneration → ⊥) × (Because holed (key 0 5) FreeSlot → ⊥) × (Because holed (key 2 5) OtherGeneration → ⊥)
+pub not_because : (Because holed (key 1 5) OtherGeneration → ⊥) × (Because holed (key 0 5) FreeSlot → ⊥) × (Because holed (key 2 5) OtherGeneration → ⊥)
 unfolding rules
-not-because = ((λ b. b.0 refl), (λ b. b.1.0 (inl refl)), λ b. b.1.1.0 refl)
+not_because = ((λ b. b.0 refl), (λ b. b.1.0 (inl refl)), λ b. b.1.1.0 refl)
 
 -- one of several keys, and of two that are dead the first
-pub one-dead : Sentence three [] (keys (key 4 1 ∷ key 1 1 ∷ [])) (Dead NoSlot) × Sentence three [] (keys (key 1 1 ∷ key 4 1 ∷ [])) (Dead NoSlot)
+pub one_dead : Sentence three [] (keys (key 4 1 ∷ key 1 1 ∷ [])) (Dead NoSlot) × Sentence three [] (keys (key 1 1 ∷ key 4 1 ∷ [])) (Dead NoSlot)
 unfolding rules
-one-dead = (inl past, inr (refl, inl past))
+one_dead = (inl past, inr (refl, inl past))
 
 pub first-dead : Sentence three [] (keys (key 4 1 ∷ key 1 2 ∷ [])) (Dead NoSlot) × Sentence three [] (keys (key 1 2 ∷ key 4 1 ∷ [])) (Dead OtherGeneration)
 first-dead = (inl past, inl other)
@@ -186,9 +186,9 @@ pub in_one : Sentence four [] (apart (key 1 1 ∷ key 3 1 ∷ key 4 1 ∷ [])) S
 unfolding rules
 in_one = ((tt, inl (inl refl)), (tt, inl (inr (inl refl))), (tt, inr (inl (inl refl))))
 
-pub not-in-one : (Sentence four [] (keys (key 1 1 ∷ key 3 1 ∷ [])) SameClass → ⊥) × (Sentence four [] (apart (key 1 1 ∷ key 4 1 ∷ [])) SameClass → ⊥)
+pub not_in_one : (Sentence four [] (keys (key 1 1 ∷ key 3 1 ∷ [])) SameClass → ⊥) × (Sentence four [] (apart (key 1 1 ∷ key 4 1 ∷ [])) SameClass → ⊥)
 unfolding rules
-not-in-one = ((λ h. h.0), go)
+not_in_one = ((λ h. h.0), go)
   where
     go : Sentence four [] (apart (key 1 1 ∷ key 4 1 ∷ [])) SameClass → ⊥
     go (t, inl (inl q)) = let z : ◌≡◌ {A = ℕ} 1 2 = q in omega arith
@@ -197,9 +197,9 @@ not-in-one = ((λ h. h.0), go)
     go (t, inr (inr q)) = q
 
 -- one of several runs; and only of a call that wants none
-pub one-sealed : Sentence (room 2 2) [] (unsealed (key 2 1 ∷ key 1 1 ∷ [])) Sealed × Sentence (room 2 2) [] (unsealed (key 1 1 ∷ key 2 1 ∷ [])) Sealed
+pub one_sealed : Sentence (room 2 2) [] (unsealed (key 2 1 ∷ key 1 1 ∷ [])) Sealed × Sentence (room 2 2) [] (unsealed (key 1 1 ∷ key 2 1 ∷ [])) Sealed
 unfolding rules
-one-sealed = ((tt, inl tt), (tt, inr (inl tt)))
+one_sealed = ((tt, inl tt), (tt, inr (inl tt)))
 
 pub not-sealed : (Sentence (room 2 2) [] (keys (key 2 1 ∷ [])) Sealed → ⊥) × (Sentence (room 2 2) [] (unsealed (key 1 1 ∷ [])) Sealed → ⊥)
 unfolding rules
@@ -220,25 +220,25 @@ by-extent = (tt, (refl, refl))
 pub not_full : (Sentence (room 3 2) [] (want [] false false true true 0) NoElement → ⊥) × (Sentence (room 2 3) [] (want [] false false true true 0) NoShared → ⊥)
 not_full = ((λ h. omega (arith, h.1.1)), (λ h. omega (arith, h.1.1)))
 
-pub on_chain : Sentence goesOn [] (want [] false false true true 0) NoElement → ⊥
+pub on_chain : Sentence goes_on [] (want [] false false true true 0) NoElement → ⊥
 on_chain h = omega (arith, h.1.0)
 
-pub not-needed : (Sentence (room 2 2) [] (want [] false false true false 0) NoElement → ⊥) × (Sentence (room 2 2) [] (want [] false false false true 0) NoShared → ⊥)
-not-needed = ((λ h. h.0), (λ h. h.0))
+pub not_needed : (Sentence (room 2 2) [] (want [] false false true false 0) NoElement → ⊥) × (Sentence (room 2 2) [] (want [] false false false true 0) NoShared → ⊥)
+not_needed = ((λ h. h.0), (λ h. h.0))
 
 pub short : Sentence three (replicate 5 0) (lent 6) Short × (Sentence three (replicate 6 0) (lent 6) Short → ⊥)
 short = (lit< tt, λ h. omega (arith, h))
 
 -- Ticket 7: nothing is remembered; and only of a call that takes back
-pub nothing-to-undo : Sentence four [] wantBack Nothing × (Sentence joined [] wantBack Nothing → ⊥) × (Sentence four [] nothing Nothing → ⊥)
-nothing-to-undo = ((tt, refl), (λ h. let z : ◌≡◌ {A = ℕ} 1 0 = ap (λ (m : Memory). m.kept) h.1 in omega arith), λ h. h.0)
+pub nothing_to_undo : Sentence four [] want_back Nothing × (Sentence joined [] want_back Nothing → ⊥) × (Sentence four [] nothing Nothing → ⊥)
+nothing_to_undo = ((tt, refl), (λ h. let z : ◌≡◌ {A = ℕ} 1 0 = ap (λ (m : Memory). m.kept) h.1 in omega arith), λ h. h.0)
 
 pub malformed : Sentence three [] nothing Malformed → ⊥
 malformed n = n
 
 -- Ticket 11: 9 and 11 are the reader's
-pub no-file : (Sentence three [] nothing NoFile → ⊥) × (Sentence three [] nothing Version → ⊥)
-no-file = ((λ n. n), λ n. n)
+pub no_file : (Sentence three [] nothing NoFile → ⊥) × (Sentence three [] nothing Version → ⊥)
+no_file = ((λ n. n), λ n. n)
 
 pub out_of_range : Sentence three [] nothing OutOfRange → ⊥
 out_of_range n = n
@@ -247,22 +247,22 @@ out_of_range n = n
 
 pub given : Given trap [] check Unsound × Given none [] check Shape
 unfolding rules
-given = (((λ w. trap-unsound w.0), (true≢false, tt)), (refl, tt))
+given = (((λ w. trap_unsound w.0), (true≢false, tt)), (refl, tt))
 
 -- not its own sentence, and an earlier one
-pub not-given : (Given three [] check Unsound → ⊥) × (Given none [] (lenSurject (key 1 1)) (Dead NoSlot) → ⊥)
+pub not-given : (Given three [] check Unsound → ⊥) × (Given none [] (len_surject (key 1 1)) (Dead NoSlot) → ⊥)
 unfolding rules
-not-given = ((λ g. g.0 (three-sound, inl refl)), λ g. g.1.0 refl)
+not-given = ((λ g. g.0 (three_sound, inl refl)), λ g. g.1.0 refl)
 
 -- each sentence alone is in the way of acceptance
-pub not-accepted : (Accepted none [] check → ⊥) × (Accepted trap [] check → ⊥) × (Accepted three [] (lenSurject (key 4 1)) → ⊥) × (Accepted four [] (union (key 1 1) (key 3 1)) → ⊥)
+pub not-accepted : (Accepted none [] check → ⊥) × (Accepted trap [] check → ⊥) × (Accepted three [] (len_surject (key 4 1)) → ⊥) × (Accepted four [] (union (key 1 1) (key 3 1)) → ⊥)
 unfolding rules
-not-accepted = ((λ n. n.0 refl), (λ n. n.1.0 (λ w. trap-unsound w.0)), (λ n. n.1.1.1.0 (inl past)), (λ n. n.1.1.1.1.1.1.0 (tt, inl (inl refl))))
+not-accepted = ((λ n. n.0 refl), (λ n. n.1.0 (λ w. trap_unsound w.0)), (λ n. n.1.1.1.0 (inl past)), (λ n. n.1.1.1.1.1.1.0 (tt, inl (inl refl))))
 
-pub not-accepted-slots : (Accepted (room 2 2) [] (insert (key 2 1) 9 0) → ⊥) × (Accepted (room 3 2) [] (newRun 9 9 0) → ⊥) × (Accepted (room 2 2) [] (insert (key 1 1) 9 0) → ⊥) × (Accepted three (replicate 5 0) (list (key 1 1)) → ⊥)
+pub not_accepted_slots : (Accepted (room 2 2) [] (insert (key 2 1) 9 0) → ⊥) × (Accepted (room 3 2) [] (new_run 9 9 0) → ⊥) × (Accepted (room 2 2) [] (insert (key 1 1) 9 0) → ⊥) × (Accepted three (replicate 5 0) (list (key 1 1)) → ⊥)
 unfolding rules
-not-accepted-slots = ((λ n. n.1.1.1.1.1.1.1.0 (tt, inl tt)), (λ n. n.1.1.1.1.1.1.1.1.0 (tt, (refl, refl))), (λ n. n.1.1.1.1.1.1.1.1.1.0 (tt, (refl, refl))), (λ n. n.1.1.1.1.1.1.1.1.1.1.0 (lit< tt)))
+not_accepted_slots = ((λ n. n.1.1.1.1.1.1.1.0 (tt, inl tt)), (λ n. n.1.1.1.1.1.1.1.1.0 (tt, (refl, refl))), (λ n. n.1.1.1.1.1.1.1.1.1.0 (tt, (refl, refl))), (λ n. n.1.1.1.1.1.1.1.1.1.1.0 (lit< tt)))
 
 pub accepted : Accepted three [] check
 unfolding rules
-accepted = (true≢false, ((λ n. n (three-sound, inl refl)), ((λ h. h.0), ((λ n. n), ((λ n. n), ((λ n. n), ((λ h. h.0), ((λ h. h.0), ((λ h. h.0), ((λ h. h.0), ((λ h. omega (arith, h)), tt)))))))))))
+accepted = (true≢false, ((λ n. n (three_sound, inl refl)), ((λ h. h.0), ((λ n. n), ((λ n. n), ((λ n. n), ((λ h. h.0), ((λ h. h.0), ((λ h. h.0), ((λ h. h.0), ((λ h. omega (arith, h)), tt)))))))))))

@@ -4,15 +4,15 @@ use mathlib.Core.Path.{◌≡◌, refl}
 use mathlib.Core.List.{List, [], ◌∷◌, ◌++◌, map}
 use lib.ListN.{replicate}
 use Rattle.rules.specs.declared.Key.{Key}
-use Rattle.rules.specs.Tables.{State, frameWidth}
+use Rattle.rules.specs.Tables.{State, frame_width}
 use Rattle.rules.specs.Refusals.{Outcome}
-use Rattle.rules.specs.Calls.{Call, lenSurject, inSameSurject, getElement, getShared, getSize, getTotal, lookup, setElement, setShared, insert, union, remove, removeShared, list, drain, seal, exchange, step}
+use Rattle.rules.specs.Calls.{Call, len_surject, in_same_surject, get_element, get_shared, get_size, get_total, lookup, set_element, set_shared, insert, union, remove, remove_shared, list, drain, seal, exchange, step}
 use Rattle.rules.proofs.Cases.{rules, key, ok, dead, pool, at, e, s, zeros}
 use Rattle.rules.proofs.Worked.{fresh43}
 
 -- a state of extent 3 and capacity 4: a run of the slots 1 and 3, and slot 2 free
 abbrev pub holed : State
-holed = at (pool 4 3 2 2) (pool 1 1 0 1) 7 (e 5 10 1 3 3 ++ e 0 0 0 0 0 ++ e 6 12 1 1 1 ++ zeros frameWidth 1) (s 2 100 0)
+holed = at (pool 4 3 2 2) (pool 1 1 0 1) 7 (e 5 10 1 3 3 ++ e 0 0 0 0 0 ++ e 6 12 1 1 1 ++ zeros frame_width 1) (s 2 100 0)
 
 -- live ones; and dead ones of each cause
 abbrev a : Key
@@ -33,30 +33,30 @@ old = key 1 6
 -- every kind of call with a key, at each place where it takes one
 abbrev kinds : Key → List Call
 kinds k =
-    lenSurject k ∷ getElement k ∷ getShared k ∷ getSize k ∷ getTotal k ∷ lookup k ∷ setElement k 9 ∷ setShared k 9 ∷ insert k 9 0 ∷ remove k ∷ removeShared k ∷ list k ∷ drain k ∷ seal k ∷
-    inSameSurject k a ∷ inSameSurject a k ∷ union k a ∷ union a k ∷
+    len_surject k ∷ get_element k ∷ get_shared k ∷ get_size k ∷ get_total k ∷ lookup k ∷ set_element k 9 ∷ set_shared k 9 ∷ insert k 9 0 ∷ remove k ∷ remove_shared k ∷ list k ∷ drain k ∷ seal k ∷
+    in_same_surject k a ∷ in_same_surject a k ∷ union k a ∷ union a k ∷
     exchange (k ∷ a ∷ b ∷ a ∷ []) (1 ∷ 2 ∷ 3 ∷ 4 ∷ []) ∷ exchange (a ∷ k ∷ b ∷ a ∷ []) (1 ∷ 2 ∷ 3 ∷ 4 ∷ []) ∷
     exchange (a ∷ b ∷ k ∷ a ∷ []) (1 ∷ 2 ∷ 3 ∷ 4 ∷ []) ∷ exchange (a ∷ b ∷ a ∷ k ∷ []) (1 ∷ 2 ∷ 3 ∷ 4 ∷ []) ∷ []
 
 abbrev each : Key → List Outcome
 each k = map (step holed (9 ∷ [])) (kinds k)
 
-pub cause-1 : each past ≡ replicate 22 (dead 1 holed (9 ∷ []))
+pub cause_1 : each past ≡ replicate 22 (dead 1 holed (9 ∷ []))
 unfolding rules
-cause-1 = refl
+cause_1 = refl
 
-pub cause-2 : each free ≡ replicate 22 (dead 2 holed (9 ∷ []))
+pub cause_2 : each free ≡ replicate 22 (dead 2 holed (9 ∷ []))
 unfolding rules
-cause-2 = refl
+cause_2 = refl
 
-pub cause-3 : each old ≡ replicate 22 (dead 3 holed (9 ∷ []))
+pub cause_3 : each old ≡ replicate 22 (dead 3 holed (9 ∷ []))
 unfolding rules
-cause-3 = refl
+cause_3 = refl
 
 -- of two dead keys, and of four, the first
 abbrev pairs : (j k : Key) → List Call
 pairs j k =
-    inSameSurject j k ∷ union j k ∷ exchange (j ∷ k ∷ a ∷ b ∷ []) (1 ∷ 2 ∷ 3 ∷ 4 ∷ []) ∷ exchange (a ∷ j ∷ k ∷ past ∷ []) (1 ∷ 2 ∷ 3 ∷ 4 ∷ []) ∷ exchange (a ∷ b ∷ j ∷ k ∷ []) (1 ∷ 2 ∷ 3 ∷ 4 ∷ []) ∷ []
+    in_same_surject j k ∷ union j k ∷ exchange (j ∷ k ∷ a ∷ b ∷ []) (1 ∷ 2 ∷ 3 ∷ 4 ∷ []) ∷ exchange (a ∷ j ∷ k ∷ past ∷ []) (1 ∷ 2 ∷ 3 ∷ 4 ∷ []) ∷ exchange (a ∷ b ∷ j ∷ k ∷ []) (1 ∷ 2 ∷ 3 ∷ 4 ∷ []) ∷ []
 
 abbrev both : (j k : Key) → List Outcome
 both j k = map (step holed []) (pairs j k)

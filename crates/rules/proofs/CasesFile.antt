@@ -6,28 +6,28 @@ use mathlib.Core.List.{List, [], ◌∷◌, ◌++◌, map}
 use lib.ListN.{length, take, drop, replicate}
 use Rattle.rules.specs.declared.Key.{Key}
 use Rattle.rules.specs.Notation.{along, flat}
-use Rattle.rules.specs.Tables.{frameWidth, headerWidth, State}
+use Rattle.rules.specs.Tables.{frame_width, header_width, State}
 use Rattle.rules.specs.Refusals.{Outcome, outcome, door}
 use Rattle.rules.specs.Slots.{empty}
-use Rattle.rules.specs.Calls.{newRun, writeFile, ruling, step}
+use Rattle.rules.specs.Calls.{new_run, write_file, ruling, step}
 use Rattle.rules.specs.Bytes
 use Rattle.rules.specs.Bytes.{Got, unread, got, little, value, limit, number, times}
 use Rattle.rules.specs.RunFile
-use Rattle.rules.specs.RunFile.{StoredFrame, StoredRun, Entry, Parsed, departs, holds, total, frameCount, frameLength, bodyLength, entries, firstBody, file, parse}
+use Rattle.rules.specs.RunFile.{StoredFrame, StoredRun, Entry, Parsed, departs, holds, total, frame_count, frame_length, body_length, entries, first_body, file, parse}
 use Rattle.rules.specs.WriteFile
-use Rattle.rules.specs.WriteFile.{runsIn, bytesIn}
+use Rattle.rules.specs.WriteFile.{runs_in, bytes_in}
 use Rattle.rules.specs.ReadFile
-use Rattle.rules.specs.ReadFile.{beforeIn, afterIn, isIn, readFile, read_step, runsOf}
-use Rattle.rules.specs.Filing.{fileLength, mostFile}
-use Rattle.rules.specs.History.{History, Given, nothing, notedRead, readInto}
-use Rattle.rules.proofs.Cases.{rules, Case, ◌gives◌, did, says, key, ok, refused, pool, at, joinedAs, e, ez, s, mz, zeros}
-use Rattle.rules.proofs.Worked.{fresh43, joined, goesOn, drained}
+use Rattle.rules.specs.ReadFile.{before_in, after_in, is_in, read_file, read_step, runs_of}
+use Rattle.rules.specs.Filing.{file_length, most_file}
+use Rattle.rules.specs.History.{History, Given, nothing, noted_read, read_into}
+use Rattle.rules.proofs.Cases.{rules, Case, ◌gives◌, did, says, key, ok, refused, pool, at, joined_as, e, ez, s, mz, zeros}
+use Rattle.rules.proofs.Worked.{fresh43, joined, goes_on, drained}
 use Rattle.rules.proofs.Apart.{none}
 use Rattle.rules.proofs.CasesCopied.{study, dirty}
 
 -- what a row computes with, beside the other rules
 unfoldable pub files : Type 0
-unfolding Bytes.times Bytes.little Bytes.value Bytes.number RunFile.frameBytes RunFile.bodyBytes RunFile.entries RunFile.entryBytes RunFile.afterVersion RunFile.file RunFile.storedFrame RunFile.body RunFile.entry RunFile.bodies RunFile.runs RunFile.parse WriteFile.runsIn WriteFile.writeFile ReadFile.beforeIn ReadFile.afterIn ReadFile.readFrames ReadFile.readRuns ReadFile.read_tables ReadFile.intoRoom ReadFile.readFile
+unfolding Bytes.times Bytes.little Bytes.value Bytes.number RunFile.frame_bytes RunFile.body_bytes RunFile.entries RunFile.entry_bytes RunFile.after_version RunFile.file RunFile.stored_frame RunFile.body RunFile.entry RunFile.bodies RunFile.runs RunFile.parse WriteFile.runs_in WriteFile.write_file ReadFile.before_in ReadFile.after_in ReadFile.read_frames ReadFile.read_runs ReadFile.read_tables ReadFile.into_room ReadFile.read_file
 files = Unit {0}
 
 -- small numbers as bytes, and a frame
@@ -42,35 +42,35 @@ f t z = u8 t ++ u4 z
 
 -- ---- the writer
 -- the whole case, before its removal and after: a ring from its lowest slot
-abbrev caseBytes : List ℕ
-caseBytes = u4 1 ++ u4 1 ++ u4 16 ++ u4 56 ++ u8 100 ++ u8 0 ++ u4 3 ++ f 10 0 ++ f 12 0 ++ f 11 0
+abbrev case_bytes : List ℕ
+case_bytes = u4 1 ++ u4 1 ++ u4 16 ++ u4 56 ++ u8 100 ++ u8 0 ++ u4 3 ++ f 10 0 ++ f 12 0 ++ f 11 0
 
-abbrev unionBytes : List ℕ
-unionBytes = u4 1 ++ u4 1 ++ u4 16 ++ u4 68 ++ u8 100 ++ u8 0 ++ u4 4 ++ f 10 0 ++ f 20 0 ++ f 12 0 ++ f 11 0
+abbrev union_bytes : List ℕ
+union_bytes = u4 1 ++ u4 1 ++ u4 16 ++ u4 68 ++ u8 100 ++ u8 0 ++ u4 4 ++ f 10 0 ++ f 20 0 ++ f 12 0 ++ f 11 0
 
 -- two runs, found by their lowest slots, the sealed one no other than the rest; 400 is 144 and 1 times 256
-abbrev pub studyFile : List ℕ
-studyFile = u4 1 ++ u4 2 ++ u4 24 ++ u4 44 ++ u4 68 ++ u4 32 ++ u8 200 ++ u8 21 ++ u4 2 ++ f 20 7 ++ f 51 14 ++ (144 ∷ 1 ∷ 0 ∷ 0 ∷ 0 ∷ 0 ∷ 0 ∷ 0 ∷ []) ++ u8 11 ++ u4 1 ++ f 40 11
+abbrev pub study_file : List ℕ
+study_file = u4 1 ++ u4 2 ++ u4 24 ++ u4 44 ++ u4 68 ++ u4 32 ++ u8 200 ++ u8 21 ++ u4 2 ++ f 20 7 ++ f 51 14 ++ (144 ∷ 1 ∷ 0 ∷ 0 ∷ 0 ∷ 0 ∷ 0 ∷ 0 ∷ []) ++ u8 11 ++ u4 1 ++ f 40 11
 
 abbrev writes : List Case
 writes =
     -- Exactly enough room; more, and the bytes past are untouched; one byte short
-    step goesOn (replicate 72 9) writeFile gives ok (72 ∷ []) goesOn caseBytes ∷
-    step goesOn (replicate 74 9) writeFile gives ok (72 ∷ []) goesOn (caseBytes ++ 9 ∷ 9 ∷ []) ∷
-    step goesOn (replicate 71 9) writeFile gives refused 7 goesOn (replicate 71 9) ∷
+    step goes_on (replicate 72 9) write_file gives ok (72 ∷ []) goes_on case_bytes ∷
+    step goes_on (replicate 74 9) write_file gives ok (72 ∷ []) goes_on (case_bytes ++ 9 ∷ 9 ∷ []) ∷
+    step goes_on (replicate 71 9) write_file gives refused 7 goes_on (replicate 71 9) ∷
     -- Just after a union, which can be undone then
-    step joined (replicate 84 9) writeFile gives ok (84 ∷ []) joined unionBytes ∷
+    step joined (replicate 84 9) write_file gives ok (84 ∷ []) joined union_bytes ∷
     -- No runs: eight bytes
-    step fresh43 (replicate 8 9) writeFile gives ok (8 ∷ []) fresh43 (u4 1 ++ u4 0) ∷
-    step fresh43 (replicate 7 9) writeFile gives refused 7 fresh43 (replicate 7 9) ∷
-    step drained (replicate 9 9) writeFile gives ok (8 ∷ []) drained (u4 1 ++ u4 0 ++ 9 ∷ []) ∷
+    step fresh43 (replicate 8 9) write_file gives ok (8 ∷ []) fresh43 (u4 1 ++ u4 0) ∷
+    step fresh43 (replicate 7 9) write_file gives refused 7 fresh43 (replicate 7 9) ∷
+    step drained (replicate 9 9) write_file gives ok (8 ∷ []) drained (u4 1 ++ u4 0 ++ 9 ∷ []) ∷
     -- Holes, sizes and a seal
-    step study (replicate 100 9) writeFile gives ok (100 ∷ []) study studyFile ∷
-    step study (replicate 99 9) writeFile gives refused 7 study (replicate 99 9) ∷
-    step study [] writeFile gives refused 7 study [] ∷
+    step study (replicate 100 9) write_file gives ok (100 ∷ []) study study_file ∷
+    step study (replicate 99 9) write_file gives refused 7 study (replicate 99 9) ∷
+    step study [] write_file gives refused 7 study [] ∷
     -- At the door
-    outcome none [] (door none true (ruling none [] writeFile)) gives refused 1 none [] ∷
-    outcome study [] (door study false (ruling study [] writeFile)) gives refused 2 study [] ∷
+    outcome none [] (door none true (ruling none [] write_file)) gives refused 1 none [] ∷
+    outcome study [] (door study false (ruling study [] write_file)) gives refused 2 study [] ∷
     []
 
 pub written : map did writes ≡ map says writes
@@ -79,45 +79,45 @@ written = refl
 
 -- ---- the reader
 -- the study's runs in canonical order, in tables of these capacities
-abbrev pub inOrder : (elems shared : ℕ) → State
-inOrder a b =
+abbrev pub in_order : (elems shared : ℕ) → State
+in_order a b =
     at (pool a 3 0 3) (pool b 2 0 2) 1
-    (ez 1 20 1 2 2 7 ++ ez 1 51 1 1 1 14 ++ ez 1 40 2 3 3 11 ++ zeros frameWidth (a - 3))
-    (mz 2 200 0 21 ++ mz 1 400 0 11 ++ zeros headerWidth (b - 2))
+    (ez 1 20 1 2 2 7 ++ ez 1 51 1 1 1 14 ++ ez 1 40 2 3 3 11 ++ zeros frame_width (a - 3))
+    (mz 2 200 0 21 ++ mz 1 400 0 11 ++ zeros header_width (b - 2))
 
 abbrev reads : List Case
 reads =
     -- Its own capacities, larger ones, exactly the frames and runs; whatever the target held
-    read_step study studyFile gives ok [] (inOrder 7 5) [] ∷
-    read_step (dirty 9 6) studyFile gives ok [] (inOrder 9 6) [] ∷
-    read_step (dirty 3 2) studyFile gives ok [] (inOrder 3 2) [] ∷
-    read_step (joinedAs 1 2 1 7 (dirty 3 2)) studyFile gives ok [] (inOrder 3 2) [] ∷
+    read_step study study_file gives ok [] (in_order 7 5) [] ∷
+    read_step (dirty 9 6) study_file gives ok [] (in_order 9 6) [] ∷
+    read_step (dirty 3 2) study_file gives ok [] (in_order 3 2) [] ∷
+    read_step (joined_as 1 2 1 7 (dirty 3 2)) study_file gives ok [] (in_order 3 2) [] ∷
     -- One smaller: 5, 6, and 6 before 5
-    read_step (dirty 2 2) studyFile gives refused 5 (dirty 2 2) [] ∷
-    read_step (dirty 3 1) studyFile gives refused 6 (dirty 3 1) [] ∷
-    read_step (dirty 2 1) studyFile gives refused 6 (dirty 2 1) [] ∷
-    read_step (joinedAs 1 2 1 7 (dirty 2 2)) studyFile gives refused 5 (joinedAs 1 2 1 7 (dirty 2 2)) [] ∷
+    read_step (dirty 2 2) study_file gives refused 5 (dirty 2 2) [] ∷
+    read_step (dirty 3 1) study_file gives refused 6 (dirty 3 1) [] ∷
+    read_step (dirty 2 1) study_file gives refused 6 (dirty 2 1) [] ∷
+    read_step (joined_as 1 2 1 7 (dirty 2 2)) study_file gives refused 5 (joined_as 1 2 1 7 (dirty 2 2)) [] ∷
     -- The whole case, a run of three in slots 1 to 3; and no runs
-    read_step (dirty 4 3) caseBytes gives ok [] (at (pool 4 3 0 3) (pool 3 1 0 1) 1 (e 1 10 1 3 2 ++ e 1 12 1 1 3 ++ e 1 11 1 2 1 ++ zeros frameWidth 1) (s 3 100 0 ++ zeros headerWidth 2)) [] ∷
+    read_step (dirty 4 3) case_bytes gives ok [] (at (pool 4 3 0 3) (pool 3 1 0 1) 1 (e 1 10 1 3 2 ++ e 1 12 1 1 3 ++ e 1 11 1 2 1 ++ zeros frame_width 1) (s 3 100 0 ++ zeros header_width 2)) [] ∷
     read_step (dirty 4 3) (u4 1 ++ u4 0) gives ok [] (empty 4 3 1) [] ∷
     -- Tables that do not fit, before all else
     read_step none [] gives refused 1 none [] ∷
-    read_step none studyFile gives refused 1 none [] ∷
+    read_step none study_file gives refused 1 none [] ∷
     -- Less than eight bytes, before the version; the version, before any other departure
     read_step study [] gives refused 9 study [] ∷
     read_step study (u4 2 ++ 0 ∷ 0 ∷ 0 ∷ []) gives refused 9 study [] ∷
     read_step study (u4 2 ++ u4 9) gives refused 11 study [] ∷
     read_step study (u4 0 ++ u4 0) gives refused 11 study [] ∷
     read_step study (255 ∷ 255 ∷ 255 ∷ 255 ∷ u4 0) gives refused 11 study [] ∷
-    read_step (dirty 2 1) (u4 2 ++ drop 4 studyFile) gives refused 11 (dirty 2 1) [] ∷
+    read_step (dirty 2 1) (u4 2 ++ drop 4 study_file) gives refused 11 (dirty 2 1) [] ∷
     []
 
-pub readOut : map did reads ≡ map says reads
+pub read_out : map did reads ≡ map says reads
 unfolding rules files
-readOut = refl
+read_out = refl
 
 -- the versions known
-pub versions : map (λ v. (outcome fresh43 [] (readFile (1 ∷ 2 ∷ []) fresh43 (u4 v ++ u4 0))).said.number) (0 ∷ 1 ∷ 2 ∷ 3 ∷ []) ≡ 11 ∷ 0 ∷ 0 ∷ 11 ∷ []
+pub versions : map (λ v. (outcome fresh43 [] (read_file (1 ∷ 2 ∷ []) fresh43 (u4 v ++ u4 0))).said.number) (0 ∷ 1 ∷ 2 ∷ 3 ∷ []) ≡ 11 ∷ 0 ∷ 0 ∷ 11 ∷ []
 unfolding rules files
 versions = refl
 
@@ -166,9 +166,9 @@ departures =
     []
 
 -- each is refused 9 and changes nothing, though there is room
-pub departs-nine : map (read_step (dirty 2 2)) departures ≡ replicate (length departures) (refused 9 (dirty 2 2) [])
+pub departs_nine : map (read_step (dirty 2 2)) departures ≡ replicate (length departures) (refused 9 (dirty 2 2) [])
 unfolding rules files
-departs-nine = refl
+departs_nine = refl
 
 -- and in no place departed, both are read
 pub in_place : map (λ b. (read_step (dirty 2 2) b).said.number) (one (u4 1) (u4 16) (u4 32) (u8 7) (u4 1) [] ∷ two (u4 24) (u4 56) (u4 32) (u4 32) [] ∷ []) ≡ 0 ∷ 0 ∷ []
@@ -203,37 +203,37 @@ run v fs = record { value = v; frames = fs }
 abbrev pub fr : (payload size : ℕ) → StoredFrame
 fr t z = record { payload = t; size = z }
 
-abbrev pub studyRuns : List StoredRun
-studyRuns = run 200 (fr 20 7 ∷ fr 51 14 ∷ []) ∷ run 400 (fr 40 11 ∷ []) ∷ []
+abbrev pub study_runs : List StoredRun
+study_runs = run 200 (fr 20 7 ∷ fr 51 14 ∷ []) ∷ run 400 (fr 40 11 ∷ []) ∷ []
 
-pub as-data : runsIn study ∷ runsIn (inOrder 7 5) ∷ runsOf studyFile ∷ runsOf (drop 1 studyFile) ∷ [] ≡ studyRuns ∷ studyRuns ∷ studyRuns ∷ [] ∷ []
+pub as_data : runs_in study ∷ runs_in (in_order 7 5) ∷ runs_of study_file ∷ runs_of (drop 1 study_file) ∷ [] ≡ study_runs ∷ study_runs ∷ study_runs ∷ [] ∷ []
 unfolding rules files
-as-data = refl
+as_data = refl
 
-pub as_bytes : file 1 studyRuns ∷ bytesIn 1 (inOrder 3 2) ∷ file 7 [] ∷ [] ≡ studyFile ∷ studyFile ∷ (u4 7 ++ u4 0) ∷ []
+pub as_bytes : file 1 study_runs ∷ bytes_in 1 (in_order 3 2) ∷ file 7 [] ∷ [] ≡ study_file ∷ study_file ∷ (u4 7 ++ u4 0) ∷ []
 unfolding rules files
 as_bytes = refl
 
-pub parsed : parse 1 studyFile ∷ parse 1 (drop 1 studyFile) ∷ [] ≡ holds studyRuns ∷ departs ∷ []
+pub parsed : parse 1 study_file ∷ parse 1 (drop 1 study_file) ∷ [] ≡ holds study_runs ∷ departs ∷ []
 unfolding files
 parsed = refl
 
-pub contents : entries 1 (firstBody 2) studyRuns ≡ record { offset = 24; long = 44 } ∷ record { offset = 68; long = 32 } ∷ []
+pub contents : entries 1 (first_body 2) study_runs ≡ record { offset = 24; long = 44 } ∷ record { offset = 68; long = 32 } ∷ []
 unfolding files
 contents = refl
 
-pub counted : frameCount studyRuns ∷ total (fr 20 7 ∷ fr 51 14 ∷ []) ∷ frameLength 1 ∷ bodyLength 1 (run 0 (fr 1 2 ∷ [])) ∷ firstBody 3 ∷ fileLength 1 study ∷ fileLength 1 goesOn ∷ mostFile 1 ∷ [] ≡ 3 ∷ 21 ∷ 12 ∷ 32 ∷ 32 ∷ 100 ∷ 72 ∷ 2621448 ∷ []
+pub counted : frame_count study_runs ∷ total (fr 20 7 ∷ fr 51 14 ∷ []) ∷ frame_length 1 ∷ body_length 1 (run 0 (fr 1 2 ∷ [])) ∷ first_body 3 ∷ file_length 1 study ∷ file_length 1 goes_on ∷ most_file 1 ∷ [] ≡ 3 ∷ 21 ∷ 12 ∷ 32 ∷ 32 ∷ 100 ∷ 72 ∷ 2621448 ∷ []
 counted = refl
 
-pub known : map (λ n. isIn n (1 ∷ 2 ∷ [])) (0 ∷ 1 ∷ 2 ∷ 3 ∷ []) ≡ false ∷ true ∷ true ∷ false ∷ []
+pub known : map (λ n. is_in n (1 ∷ 2 ∷ [])) (0 ∷ 1 ∷ 2 ∷ 3 ∷ []) ≡ false ∷ true ∷ true ∷ false ∷ []
 known = refl
 
-pub around : map (beforeIn 5 3) (0 ∷ 1 ∷ 2 ∷ []) ++ map (afterIn 5 3) (0 ∷ 1 ∷ 2 ∷ []) ≡ 8 ∷ 6 ∷ 7 ∷ 7 ∷ 8 ∷ 6 ∷ []
+pub around : map (before_in 5 3) (0 ∷ 1 ∷ 2 ∷ []) ++ map (after_in 5 3) (0 ∷ 1 ∷ 2 ∷ []) ≡ 8 ∷ 6 ∷ 7 ∷ 7 ∷ 8 ∷ 6 ∷ []
 unfolding files
 around = refl
 
 -- ---- a call on what was read: the next key is of generation 1, the next slot and class past the last
-pub goes_on : (step (inOrder 7 5) [] (newRun 70 700 3)).said.values ≡ 4 ∷ 1 ∷ []
+pub goes_on : (step (in_order 7 5) [] (new_run 70 700 3)).said.values ≡ 4 ∷ 1 ∷ []
 unfolding rules
 goes_on = refl
 
@@ -244,10 +244,10 @@ given k z = record { key = key k 1; bytes = z }
 abbrev before : History
 before = record { runs = (key 2 9 ∷ key 1 8 ∷ []) ∷ []; unjoined = (key 2 9 ∷ []) ∷ (key 1 8 ∷ []) ∷ []; sealed = key 2 9 ∷ []; sizes = record { key = key 1 8; bytes = 6 } ∷ []; put = 7; taken = 5; generation = 9 }
 
-abbrev readIn : (unjoined : List (List Key)) → (put taken : ℕ) → History
-readIn u put taken = record { runs = (key 1 1 ∷ key 2 1 ∷ []) ∷ (key 3 1 ∷ []) ∷ []; unjoined = u; sealed = []; sizes = given 1 7 ∷ given 2 14 ∷ given 3 11 ∷ []; put = put; taken = taken; generation = 1 }
+abbrev read_in : (unjoined : List (List Key)) → (put taken : ℕ) → History
+read_in u put taken = record { runs = (key 1 1 ∷ key 2 1 ∷ []) ∷ (key 3 1 ∷ []) ∷ []; unjoined = u; sealed = []; sizes = given 1 7 ∷ given 2 14 ∷ given 3 11 ∷ []; put = put; taken = taken; generation = 1 }
 
-pub noted : readInto nothing studyRuns ∷ notedRead before studyRuns (read_step study studyFile).said ∷ notedRead before studyRuns (read_step (dirty 2 1) studyFile).said ∷ []
-    ≡ readIn [] 3 0 ∷ readIn ((key 2 9 ∷ []) ∷ (key 1 8 ∷ []) ∷ []) 10 7 ∷ before ∷ []
+pub noted : read_into nothing study_runs ∷ noted_read before study_runs (read_step study study_file).said ∷ noted_read before study_runs (read_step (dirty 2 1) study_file).said ∷ []
+    ≡ read_in [] 3 0 ∷ read_in ((key 2 9 ∷ []) ∷ (key 1 8 ∷ []) ∷ []) 10 7 ∷ before ∷ []
 unfolding rules files
 noted = refl

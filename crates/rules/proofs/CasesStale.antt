@@ -6,26 +6,26 @@ use mathlib.Core.List.{List, [], ◌∷◌, map}
 use native.Mathlib.Omega.{arith}
 use lib.Dec.{lit≤}
 use lib.ListN.{replicate, get_or}
-use Rattle.rules.specs.Tables.{State, withGeneration}
+use Rattle.rules.specs.Tables.{State, with_generation}
 use Rattle.rules.specs.Refusals.{Outcome}
-use Rattle.rules.specs.Calls.{Call, newRun, insert, remove, removeShared, drain, drainAll, clear, compress, compressWith, step}
+use Rattle.rules.specs.Calls.{Call, new_run, insert, remove, remove_shared, drain, drain_all, clear, compress, compress_with, step}
 use Rattle.rules.specs.Renaming.{Compresses, canonical, kept}
-use Rattle.rules.specs.Stale.{overMark, Written, Ends, answer, onRecord, onRecordOfAll, reset, resetWith, closing, Gives, begun, put, renewed, Takes, removed, removedShared, drained, drainedAll, cleared, compressed}
+use Rattle.rules.specs.Stale.{over_mark, Written, Ends, answer, on_record, on_record_of_all, reset, reset_with, closing, Gives, begun, put, renewed, Takes, removed, removed_shared, drained, drained_all, cleared, compressed}
 use Rattle.rules.proofs.Cases.{rules, key}
-use Rattle.rules.proofs.Worked.{fresh43, one, two, four, freshLast, oneLast}
+use Rattle.rules.proofs.Worked.{fresh43, one, two, four, fresh_last, one_last}
 
 abbrev lots : List ℕ
 lots = replicate 24 0
 
 -- the last generation but one
 abbrev late : State → State
-late st = record { head = withGeneration st.head 4294967294; elems = st.elems; shared = st.shared }
+late st = record { head = with_generation st.head 4294967294; elems = st.elems; shared = st.shared }
 
 -- two frames are drained, and the second removal passes the last generation
 abbrev both : Outcome
 both = step (late two) lots (drain (key 1 1))
 
-pub marks : map (overMark both) (1 ∷ 2 ∷ 3 ∷ []) ≡ 0 ∷ 1 ∷ 0 ∷ []
+pub marks : map (over_mark both) (1 ∷ 2 ∷ 3 ∷ []) ≡ 0 ∷ 1 ∷ 0 ∷ []
 unfolding rules
 marks = refl
 
@@ -38,103 +38,103 @@ unfolding rules
 not_written = ((λ w. omega (arith, w.0)), λ w. omega (arith, w.1))
 
 -- ---- what ends it
-pub over-ends : Ends oneLast (step oneLast [] clear) clear
+pub over-ends : Ends one_last (step one_last [] clear) clear
 unfolding rules
 over-ends = answer refl
 
-pub record-ends : Ends (late two) both (drain (key 1 1))
+pub record_ends : Ends (late two) both (drain (key 1 1))
 unfolding rules
-record-ends = onRecord (key 1 1) 2 (lit≤ tt, lit≤ tt) refl
+record_ends = on_record (key 1 1) 2 (lit≤ tt, lit≤ tt) refl
 
-pub record-of-all-ends : Ends (late two) (step (late two) lots drainAll) drainAll
+pub record_of_all_ends : Ends (late two) (step (late two) lots drain_all) drain_all
 unfolding rules
-record-of-all-ends = onRecordOfAll 2 (lit≤ tt, lit≤ tt) refl
+record_of_all_ends = on_record_of_all 2 (lit≤ tt, lit≤ tt) refl
 
-pub reset-ends : Ends one (step one lots (compress true)) (compress true) × Ends one (step one lots (compressWith true)) (compressWith true)
-reset-ends = (reset, resetWith)
+pub reset-ends : Ends one (step one lots (compress true)) (compress true) × Ends one (step one lots (compress_with true)) (compress_with true)
+reset-ends = (reset, reset_with)
 
 -- of no frame, and of one, whose removal reaches the last generation
-pub closing-ends : Ends freshLast (step freshLast [] drainAll) drainAll × Ends (late one) (step (late one) lots drainAll) drainAll
+pub closing-ends : Ends fresh_last (step fresh_last [] drain_all) drain_all × Ends (late one) (step (late one) lots drain_all) drain_all
 unfolding rules
 closing-ends = (closing refl refl, closing refl refl)
 
 -- ---- and what does not
-pub clear-goes-on : Ends one (step one [] clear) clear → ⊥
+pub clear_goes_on : Ends one (step one [] clear) clear → ⊥
 unfolding rules
-clear-goes-on (answer e) = true≢false (sym e)
+clear_goes_on (answer e) = true≢false (sym e)
 
-pub drain-goes-on : Ends two (step two lots (drain (key 1 1))) (drain (key 1 1)) → ⊥
+pub drain_goes_on : Ends two (step two lots (drain (key 1 1))) (drain (key 1 1)) → ⊥
 unfolding rules
-drain-goes-on (answer e) = true≢false (sym e)
-drain-goes-on (onRecord k zero w e) = omega (arith, w.0)
-drain-goes-on (onRecord k (suc zero) w e) = omega (arith, e)
-drain-goes-on (onRecord k (suc (suc zero)) w e) = omega (arith, e)
-drain-goes-on (onRecord k (suc (suc (suc i))) w e) = omega (arith, w.1)
+drain_goes_on (answer e) = true≢false (sym e)
+drain_goes_on (on_record k zero w e) = omega (arith, w.0)
+drain_goes_on (on_record k (suc zero) w e) = omega (arith, e)
+drain_goes_on (on_record k (suc (suc zero)) w e) = omega (arith, e)
+drain_goes_on (on_record k (suc (suc (suc i))) w e) = omega (arith, w.1)
 
 -- the record of the last removal reaches the last generation, and a record past those written counts for nothing
-pub reached-goes-on : Ends (late one) (step (late one) (replicate 24 1) (drain (key 1 1))) (drain (key 1 1)) → ⊥
+pub reached_goes_on : Ends (late one) (step (late one) (replicate 24 1) (drain (key 1 1))) (drain (key 1 1)) → ⊥
 unfolding rules
-reached-goes-on (answer e) = true≢false (sym e)
-reached-goes-on (onRecord k zero w e) = omega (arith, w.0)
-reached-goes-on (onRecord k (suc zero) w e) = omega (arith, e)
-reached-goes-on (onRecord k (suc (suc i)) w e) = omega (arith, w.1)
+reached_goes_on (answer e) = true≢false (sym e)
+reached_goes_on (on_record k zero w e) = omega (arith, w.0)
+reached_goes_on (on_record k (suc zero) w e) = omega (arith, e)
+reached_goes_on (on_record k (suc (suc i)) w e) = omega (arith, w.1)
 
-pub drain-all-goes-on : Ends one (step one lots drainAll) drainAll → ⊥
+pub drain_all_goes_on : Ends one (step one lots drain_all) drain_all → ⊥
 unfolding rules
-drain-all-goes-on (answer e) = true≢false (sym e)
-drain-all-goes-on (onRecordOfAll zero w e) = omega (arith, w.0)
-drain-all-goes-on (onRecordOfAll (suc zero) w e) = omega (arith, e)
-drain-all-goes-on (onRecordOfAll (suc (suc i)) w e) = omega (arith, w.1)
-drain-all-goes-on (closing n e) = true≢false (sym e)
+drain_all_goes_on (answer e) = true≢false (sym e)
+drain_all_goes_on (on_record_of_all zero w e) = omega (arith, w.0)
+drain_all_goes_on (on_record_of_all (suc zero) w e) = omega (arith, e)
+drain_all_goes_on (on_record_of_all (suc (suc i)) w e) = omega (arith, w.1)
+drain_all_goes_on (closing n e) = true≢false (sym e)
 
 -- refused, it clears nothing
-pub refused-goes-on : Ends (late one) (step (late one) [] drainAll) drainAll → ⊥
+pub refused_goes_on : Ends (late one) (step (late one) [] drain_all) drain_all → ⊥
 unfolding rules
-refused-goes-on (answer e) = true≢false (sym e)
-refused-goes-on (onRecordOfAll i w e) = omega (arith, w.0, w.1)
-refused-goes-on (closing n e) = omega (arith, n)
+refused_goes_on (answer e) = true≢false (sym e)
+refused_goes_on (on_record_of_all i w e) = omega (arith, w.0, w.1)
+refused_goes_on (closing n e) = omega (arith, n)
 
-pub compress-goes-on : (Ends one (step one lots (compress false)) (compress false) → ⊥) × (Ends one (step one lots (compressWith false)) (compressWith false) → ⊥)
+pub compress_goes_on : (Ends one (step one lots (compress false)) (compress false) → ⊥) × (Ends one (step one lots (compress_with false)) (compress_with false) → ⊥)
 unfolding rules
-compress-goes-on = (first, second)
+compress_goes_on = (first, second)
   where
     first : Ends one (step one lots (compress false)) (compress false) → ⊥
     first (answer e) = true≢false (sym e)
 
-    second : Ends one (step one lots (compressWith false)) (compressWith false) → ⊥
+    second : Ends one (step one lots (compress_with false)) (compress_with false) → ⊥
     second (answer e) = true≢false (sym e)
 
 -- ---- keys given: by a new run and an insert the one that they answer, by a compression every one
-pub gives : Gives (step fresh43 [] (newRun 10 100 0)) (key 1 1) (newRun 10 100 0) × Gives (step one [] (insert (key 1 1) 11 0)) (key 2 1) (insert (key 1 1) 11 0)
+pub gives : Gives (step fresh43 [] (new_run 10 100 0)) (key 1 1) (new_run 10 100 0) × Gives (step one [] (insert (key 1 1) 11 0)) (key 2 1) (insert (key 1 1) 11 0)
 unfolding rules
 gives = (begun 10 100 0 refl, put (key 1 1) 11 0 refl)
 
-pub renews : Gives (step two lots (compress false)) (key 2 2) (compress false) × Gives (step two lots (compressWith true)) (key 2 1) (compressWith true)
+pub renews : Gives (step two lots (compress false)) (key 2 2) (compress false) × Gives (step two lots (compress_with true)) (key 2 1) (compress_with true)
 unfolding rules
 renews = (renewed (canonical false) refl, renewed (kept true) refl)
 
 -- a live key that was there before is given by neither
-pub gives-no-other : (Gives (step one [] (newRun 20 200 0)) (key 1 1) (newRun 20 200 0) → ⊥) × (Gives (step one [] (insert (key 1 1) 11 0)) (key 1 1) (insert (key 1 1) 11 0) → ⊥)
+pub gives_no_other : (Gives (step one [] (new_run 20 200 0)) (key 1 1) (new_run 20 200 0) → ⊥) × (Gives (step one [] (insert (key 1 1) 11 0)) (key 1 1) (insert (key 1 1) 11 0) → ⊥)
 unfolding rules
-gives-no-other = (new, more)
+gives_no_other = (new, more)
   where
-    new : Gives (step one [] (newRun 20 200 0)) (key 1 1) (newRun 20 200 0) → ⊥
+    new : Gives (step one [] (new_run 20 200 0)) (key 1 1) (new_run 20 200 0) → ⊥
     new (begun payload value size e) = omega (arith, ap (λ (v : List ℕ). get_or v 0 0) e)
 
     more : Gives (step one [] (insert (key 1 1) 11 0)) (key 1 1) (insert (key 1 1) 11 0) → ⊥
     more (put j payload size e) = omega (arith, ap (λ (v : List ℕ). get_or v 0 0) e)
 
 -- ---- frames taken: 2 is in the run of 1, and 4 is not
-pub takes : Takes four (key 1 1) (remove (key 1 1)) × Takes four (key 2 1) (removeShared (key 1 1)) × Takes four (key 2 1) (drain (key 1 1)) × Takes four (key 4 1) drainAll × Takes four (key 4 1) clear × Takes four (key 4 1) (compress false) × Takes four (key 4 1) (compressWith false)
+pub takes : Takes four (key 1 1) (remove (key 1 1)) × Takes four (key 2 1) (remove_shared (key 1 1)) × Takes four (key 2 1) (drain (key 1 1)) × Takes four (key 4 1) drain_all × Takes four (key 4 1) clear × Takes four (key 4 1) (compress false) × Takes four (key 4 1) (compress_with false)
 unfolding rules
-takes = (removed, removedShared (key 1 1) refl, drained (key 1 1) refl, drainedAll, cleared, compressed (canonical false), compressed (kept false))
+takes = (removed, removed_shared (key 1 1) refl, drained (key 1 1) refl, drained_all, cleared, compressed (canonical false), compressed (kept false))
 
-pub takes-no-other : (Takes four (key 4 1) (removeShared (key 1 1)) → ⊥) × (Takes four (key 4 1) (drain (key 1 1)) → ⊥)
+pub takes_no_other : (Takes four (key 4 1) (remove_shared (key 1 1)) → ⊥) × (Takes four (key 4 1) (drain (key 1 1)) → ⊥)
 unfolding rules
-takes-no-other = (shared, run)
+takes_no_other = (shared, run)
   where
-    shared : Takes four (key 4 1) (removeShared (key 1 1)) → ⊥
-    shared (removedShared j e) = omega (arith, e)
+    shared : Takes four (key 4 1) (remove_shared (key 1 1)) → ⊥
+    shared (removed_shared j e) = omega (arith, e)
 
     run : Takes four (key 4 1) (drain (key 1 1)) → ⊥
     run (drained j e) = omega (arith, e)

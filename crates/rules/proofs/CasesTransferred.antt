@@ -6,14 +6,14 @@ use mathlib.Core.List.{List, [], ◌∷◌, ◌++◌, map}
 use Rattle.rules.specs.declared.Key.{Key}
 use Rattle.rules.specs.declared.Done.TheVariants as done
 use Rattle.rules.specs.declared.Refusal.TheVariants.{NoShared}
-use Rattle.rules.specs.Tables.{frameWidth, headerWidth, State}
+use Rattle.rules.specs.Tables.{frame_width, header_width, State}
 use Rattle.rules.specs.Slots.{empty}
-use Rattle.rules.specs.TwoTables.{TwoOutcome, twoOutcome, after_both, twoDoors}
+use Rattle.rules.specs.TwoTables.{TwoOutcome, two_outcome, after_both, two_doors}
 use Rattle.rules.specs.Move
-use Rattle.rules.specs.Move.{is_none, transfer, transferStep}
-use Rattle.rules.specs.History.{History, Given, sorted, begunAt, ordered, renamed, nothing, movedInto, notedTo, notedFrom}
-use Rattle.rules.proofs.Cases.{rules, key, pool, at, joinedAs, ez, mz, zeros}
-use Rattle.rules.proofs.CasesUndo.{firstKept}
+use Rattle.rules.specs.Move.{is_none, transfer, transfer_step}
+use Rattle.rules.specs.History.{History, Given, sorted, begun_at, ordered, renamed, nothing, moved_into, noted_to, noted_from}
+use Rattle.rules.proofs.Cases.{rules, key, pool, at, joined_as, ez, mz, zeros}
+use Rattle.rules.proofs.CasesUndo.{first_kept}
 use Rattle.rules.proofs.Worked.{fresh43, drained}
 use Rattle.rules.proofs.Apart.{none}
 use Rattle.rules.proofs.Sounds.{trap}
@@ -28,8 +28,8 @@ moves = Unit {0}
 abbrev pub landed : (elems shared g first last : ℕ) → State
 landed a b g first last =
     at (pool a 3 0 3) (pool b 2 0 2) g
-    (ez g first 1 2 2 7 ++ ez g 51 1 1 1 14 ++ ez g last 2 3 3 11 ++ zeros frameWidth (a - 3))
-    (mz 2 200 0 21 ++ mz 1 400 1 11 ++ zeros headerWidth (b - 2))
+    (ez g first 1 2 2 7 ++ ez g 51 1 1 1 14 ++ ez g last 2 3 3 11 ++ zeros frame_width (a - 3))
+    (mz 2 200 0 21 ++ mz 1 400 1 11 ++ zeros header_width (b - 2))
 
 abbrev pub lands : (elems shared g : ℕ) → State
 lands a b g = landed a b g 20 40
@@ -38,8 +38,8 @@ abbrev last_of : (generation : ℕ) → State
 last_of g = at (pool 1 1 0 1) (pool 1 1 0 1) g (ez g 10 1 1 1 0) (mz 1 100 0 0)
 
 -- where a source goes that is just after a union
-abbrev joinedLands : State
-joinedLands = at (pool 5 3 0 3) (pool 5 2 0 2) 3 (ez 3 10 1 2 2 0 ++ ez 3 20 1 1 1 0 ++ ez 3 30 2 3 3 0 ++ zeros frameWidth 2) (mz 2 100 0 0 ++ mz 1 300 0 0 ++ zeros headerWidth 3)
+abbrev joined_lands : State
+joined_lands = at (pool 5 3 0 3) (pool 5 2 0 2) 3 (ez 3 10 1 2 2 0 ++ ez 3 20 1 1 1 0 ++ ez 3 30 2 3 3 0 ++ zeros frame_width 2) (mz 2 100 0 0 ++ mz 1 300 0 0 ++ zeros header_width 3)
 
 -- accepted, with overflow said of the source
 abbrev pub overflowed : (target source : State) → TwoOutcome
@@ -48,31 +48,31 @@ overflowed t s = record { said = record { number = 0; values = []; over = true }
 abbrev table : List CopyCase
 table =
     -- Room to spare, exact room by live numbers, one short: 5, 6, and 5 before 6; the source is as clear leaves it
-    transferStep (dirty 8 6) study 3 copies took (lands 8 6 3) (empty 7 5 6) ∷
-    transferStep (dirty 3 2) study 3 copies took (lands 3 2 3) (empty 7 5 6) ∷
-    transferStep (dirty 2 2) study 3 copies left 5 (dirty 2 2) study ∷
-    transferStep (dirty 3 1) study 3 copies left 6 (dirty 3 1) study ∷
-    transferStep (dirty 2 1) study 3 copies left 5 (dirty 2 1) study ∷
+    transfer_step (dirty 8 6) study 3 copies took (lands 8 6 3) (empty 7 5 6) ∷
+    transfer_step (dirty 3 2) study 3 copies took (lands 3 2 3) (empty 7 5 6) ∷
+    transfer_step (dirty 2 2) study 3 copies left 5 (dirty 2 2) study ∷
+    transfer_step (dirty 3 1) study 3 copies left 6 (dirty 3 1) study ∷
+    transfer_step (dirty 2 1) study 3 copies left 5 (dirty 2 1) study ∷
     -- 13 for a generation of 0, before 5; the last generation is one, the next is none
-    transferStep (dirty 8 6) study 0 copies left 13 (dirty 8 6) study ∷
-    transferStep (dirty 2 1) study 0 copies left 13 (dirty 2 1) study ∷
-    transferStep (dirty 3 2) study 4294967295 copies took (lands 3 2 4294967295) (empty 7 5 6) ∷
-    transferStep (dirty 3 2) study 4294967296 copies left 13 (dirty 3 2) study ∷
+    transfer_step (dirty 8 6) study 0 copies left 13 (dirty 8 6) study ∷
+    transfer_step (dirty 2 1) study 0 copies left 13 (dirty 2 1) study ∷
+    transfer_step (dirty 3 2) study 4294967295 copies took (lands 3 2 4294967295) (empty 7 5 6) ∷
+    transfer_step (dirty 3 2) study 4294967296 copies left 13 (dirty 3 2) study ∷
     -- An empty source is not touched, and leaves an empty target with the generation given; so does a drained one, whose slots are free; refused 13 it leaves the target alone
-    transferStep full fresh43 9 copies took (empty 2 1 9) fresh43 ∷
-    transferStep study drained 9 copies took (empty 7 5 9) drained ∷
-    transferStep full fresh43 0 copies left 13 full fresh43 ∷
-    transferStep full (empty 4 3 4294967295) 1 copies took (empty 2 1 1) (empty 4 3 4294967295) ∷
+    transfer_step full fresh43 9 copies took (empty 2 1 9) fresh43 ∷
+    transfer_step study drained 9 copies took (empty 7 5 9) drained ∷
+    transfer_step full fresh43 0 copies left 13 full fresh43 ∷
+    transfer_step full (empty 4 3 4294967295) 1 copies took (empty 2 1 1) (empty 4 3 4294967295) ∷
     -- The source's generation is the last one: its overflow is said
-    transferStep (dirty 1 1) first 2 copies overflowed (last_of 2) (empty 3 2 1) ∷
+    transfer_step (dirty 1 1) first 2 copies overflowed (last_of 2) (empty 3 2 1) ∷
     -- Whatever the target held goes; also to tables as its own
-    transferStep study full 5 copies took (at (pool 7 2 0 2) (pool 5 1 0 1) 5 (ez 5 10 1 2 2 0 ++ ez 5 11 1 1 1 0 ++ zeros frameWidth 5) (mz 2 100 0 0 ++ zeros headerWidth 4)) (empty 2 1 10) ∷
-    transferStep study study 5 copies took (lands 7 5 5) (empty 7 5 6) ∷
+    transfer_step study full 5 copies took (at (pool 7 2 0 2) (pool 5 1 0 1) 5 (ez 5 10 1 2 2 0 ++ ez 5 11 1 1 1 0 ++ zeros frame_width 5) (mz 2 100 0 0 ++ zeros header_width 4)) (empty 2 1 10) ∷
+    transfer_step study study 5 copies took (lands 7 5 5) (empty 7 5 6) ∷
     -- Neither side has anything to undo then; refused, both keep what they had
-    transferStep (dirty 5 5) firstKept 3 copies took joinedLands (empty 5 5 2) ∷
-    transferStep (joinedAs 1 2 1 7 (dirty 5 5)) firstKept 3 copies took joinedLands (empty 5 5 2) ∷
-    transferStep firstKept fresh43 4 copies took (empty 5 5 4) fresh43 ∷
-    transferStep (joinedAs 1 2 1 7 (dirty 2 5)) firstKept 3 copies left 5 (joinedAs 1 2 1 7 (dirty 2 5)) firstKept ∷
+    transfer_step (dirty 5 5) first_kept 3 copies took joined_lands (empty 5 5 2) ∷
+    transfer_step (joined_as 1 2 1 7 (dirty 5 5)) first_kept 3 copies took joined_lands (empty 5 5 2) ∷
+    transfer_step first_kept fresh43 4 copies took (empty 5 5 4) fresh43 ∷
+    transfer_step (joined_as 1 2 1 7 (dirty 2 5)) first_kept 3 copies left 5 (joined_as 1 2 1 7 (dirty 2 5)) first_kept ∷
     []
 
 pub transferred : map made table ≡ map meant table
@@ -85,20 +85,20 @@ unfolding rules moves
 generations = refl
 
 -- ---- the door: 1 of the source, 1 of the target before 2, 2 before 13, 13 before 5. The 2 of the source and that of the target are one number: which of them was tested first is not seen
-abbrev atDoor : (target source : State) → (g : ℕ) → (sound : Bool) → TwoOutcome
-atDoor t s g sound = twoOutcome t s (twoDoors t s sound (transfer t s g))
+abbrev at_door : (target source : State) → (g : ℕ) → (sound : Bool) → TwoOutcome
+at_door t s g sound = two_outcome t s (two_doors t s sound (transfer t s g))
 
 abbrev doors : List CopyCase
 doors =
-    atDoor study full 3 true copies took (at (pool 7 2 0 2) (pool 5 1 0 1) 3 (ez 3 10 1 2 2 0 ++ ez 3 11 1 1 1 0 ++ zeros frameWidth 5) (mz 2 100 0 0 ++ zeros headerWidth 4)) (empty 2 1 10) ∷
-    atDoor study none 3 true copies left 1 study none ∷
-    atDoor none study 3 true copies left 1 none study ∷
-    atDoor none trap 0 false copies left 1 none trap ∷
-    atDoor study trap 0 false copies left 2 study trap ∷
-    atDoor trap study 0 false copies left 2 trap study ∷
-    atDoor trap trap 0 false copies left 2 trap trap ∷
-    atDoor full study 0 true copies left 13 full study ∷
-    atDoor full study 1 true copies left 5 full study ∷
+    at_door study full 3 true copies took (at (pool 7 2 0 2) (pool 5 1 0 1) 3 (ez 3 10 1 2 2 0 ++ ez 3 11 1 1 1 0 ++ zeros frame_width 5) (mz 2 100 0 0 ++ zeros header_width 4)) (empty 2 1 10) ∷
+    at_door study none 3 true copies left 1 study none ∷
+    at_door none study 3 true copies left 1 none study ∷
+    at_door none trap 0 false copies left 1 none trap ∷
+    at_door study trap 0 false copies left 2 study trap ∷
+    at_door trap study 0 false copies left 2 trap study ∷
+    at_door trap trap 0 false copies left 2 trap trap ∷
+    at_door full study 0 true copies left 13 full study ∷
+    at_door full study 1 true copies left 5 full study ∷
     []
 
 pub at-door : map made doors ≡ map meant doors
@@ -119,18 +119,18 @@ held = record { runs = (key 1 2 ∷ []) ∷ []; unjoined = (key 3 1 ∷ []) ∷ 
 abbrev after : (unjoined : List (List Key)) → (put taken : ℕ) → History
 after un p t = record { runs = (key 2 3 ∷ key 1 3 ∷ []) ∷ (key 3 3 ∷ []) ∷ []; unjoined = un; sealed = key 3 3 ∷ []; sizes = given (key 2 3) 14 ∷ given (key 3 3) 11 ∷ given (key 1 3) 7 ∷ []; put = p; taken = t; generation = 3 }
 
-pub moved_in : movedInto nothing before 3 ∷ movedInto held before 3 ∷ [] ≡ after [] 3 0 ∷ after held.unjoined 9 6 ∷ []
-unfolding rules sorted begunAt ordered renamed
+pub moved_in : moved_into nothing before 3 ∷ moved_into held before 3 ∷ [] ≡ after [] 3 0 ∷ after held.unjoined 9 6 ∷ []
+unfolding rules sorted begun_at ordered renamed
 moved_in = refl
 
-pub noted-to : notedTo held before 3 (transferStep (dirty 3 2) study 3).said ∷ notedTo held before 3 (transferStep (dirty 2 2) study 3).said ∷ [] ≡ after held.unjoined 9 6 ∷ held ∷ []
-unfolding rules copies moves sorted begunAt ordered renamed
+pub noted-to : noted_to held before 3 (transfer_step (dirty 3 2) study 3).said ∷ noted_to held before 3 (transfer_step (dirty 2 2) study 3).said ∷ [] ≡ after held.unjoined 9 6 ∷ held ∷ []
+unfolding rules copies moves sorted begun_at ordered renamed
 noted-to = refl
 
 abbrev bare : History
 bare = record { runs = []; unjoined = (key 5 4 ∷ []) ∷ []; sealed = []; sizes = []; put = 7; taken = 7; generation = 5 }
 
-pub noted-from : notedFrom before (transferStep (dirty 3 2) study 3).said ∷ notedFrom before (transferStep (dirty 2 2) study 3).said ∷ notedFrom bare (transferStep (dirty 1 1) drained 9).said ∷ []
+pub noted-from : noted_from before (transfer_step (dirty 3 2) study 3).said ∷ noted_from before (transfer_step (dirty 2 2) study 3).said ∷ noted_from bare (transfer_step (dirty 1 1) drained 9).said ∷ []
     ≡ record { runs = []; unjoined = before.unjoined; sealed = []; sizes = []; put = 7; taken = 7; generation = 6 } ∷ before ∷ bare ∷ []
 unfolding rules copies moves
 noted-from = refl

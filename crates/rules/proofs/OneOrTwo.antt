@@ -8,10 +8,10 @@ use mathlib.Core.List.{List, []}
 use Rattle.rules.specs.declared.Refusal.TheVariants.{Shape, Unsound}
 use Rattle.rules.specs.Notation.{if◌then◌else◌}
 use Rattle.rules.specs.Tables.{State}
-use Rattle.rules.specs.Sound.{bothFit}
+use Rattle.rules.specs.Sound.{both_fit}
 use Rattle.rules.specs.Refusals.{Outcome, refuse, answer, outcome, shaped, door}
 use Rattle.rules.specs.Slots
-use Rattle.rules.specs.Calls.{check, freshStep, AtDoor}
+use Rattle.rules.specs.Calls.{check, fresh_step, AtDoor}
 
 -- the check: when it gives 1 and 2 is said of every call
 pub check-most : (st : State) (lent : List ℕ) (o : Outcome) → AtDoor st lent check o → o.said.number ≤ 2
@@ -28,17 +28,17 @@ module _ (st : State) (elems shared : ℕ) where
   abbrev number : (fits : Bool) → ℕ
   number fits = (outcome st [] (if fits then answer [] (Slots.empty elems shared 1) else refuse Shape)).said.number
 
-  pub fresh-most : (freshStep st elems shared).said.number ≤ 1
+  pub fresh-most : (fresh_step st elems shared).said.number ≤ 1
   unfolding Slots.fresh
-  fresh-most = go (bothFit st elems shared)
+  fresh-most = go (both_fit st elems shared)
     where
       go : (fits : Bool) → number fits ≤ 1
       go true = omega arith
       go false = omega arith
 
-  pub fresh-exactly : ((freshStep st elems shared).said.number ≡ 1) ↔ (bothFit st elems shared ≡ false)
+  pub fresh_exactly : ((fresh_step st elems shared).said.number ≡ 1) ↔ (both_fit st elems shared ≡ false)
   unfolding Slots.fresh
-  fresh-exactly = (go (bothFit st elems shared), λ h. rw h refl)
+  fresh_exactly = (go (both_fit st elems shared), λ h. rw h refl)
     where
       go : (fits : Bool) → number fits ≡ 1 → fits ≡ false
       go true e = absurd (omega (arith, e))

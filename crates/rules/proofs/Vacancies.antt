@@ -7,18 +7,18 @@ use mathlib.Core.List.{List}
 use lib.Dec.{T}
 use Rattle.rules.specs.declared.Key.{Key}
 use Rattle.rules.specs.declared.Refusal.TheVariants.{NoElement, NoShared}
-use Rattle.rules.specs.Tables.{State, elemSide, sharedSide}
+use Rattle.rules.specs.Tables.{State, elem_side, shared_side}
 use Rattle.rules.specs.Undo.{Whole}
 use Rattle.rules.specs.Refusals.{Outcome, shaped}
-use Rattle.rules.specs.Calls.{Call, newRun, insert, Is, AtDoor}
+use Rattle.rules.specs.Calls.{Call, new_run, insert, Is, AtDoor}
 use Rattle.rules.specs.Exact.{asks, NoneFree, Turn}
-use Rattle.rules.proofs.laws.Vacant.{full-exactly}
-use Rattle.rules.proofs.Exactly.{exactly-5, exactly-6}
+use Rattle.rules.proofs.Laws.Vacant.{full_exactly}
+use Rattle.rules.proofs.Exactly.{exactly_5, exactly_6}
 
 -- past 1 and 2 the state is sound
 module _ (st : State) (lent : List ℕ) (c : Call) (o : Outcome) (d : AtDoor st lent c o) where
-  sound-then : (shaped st ≡ false → ⊥) → ((Whole st → ⊥) → ⊥) → Whole st
-  sound-then fits sound = go d.sound (d.decided (not-false (shaped st) fits))
+  sound_then : (shaped st ≡ false → ⊥) → ((Whole st → ⊥) → ⊥) → Whole st
+  sound_then fits sound = go d.sound (d.decided (not-false (shaped st) fits))
     where
       not-false : (b : Bool) → (b ≡ false → ⊥) → b ≡ true
       not-false true n = cc
@@ -29,24 +29,24 @@ module _ (st : State) (lent : List ℕ) (c : Call) (o : Outcome) (d : AtDoor st 
       go false n = absurd (sound n)
 
   -- of any call that needs the slot
-  pub no-element-exactly : T (asks st c).element → Turn st lent c NoElement → (o.said.number ≡ 5) ↔ NoneFree (elemSide st)
-  no-element-exactly a t =
-      let e = exactly-5 st lent c o d in
-      let f = (full-exactly st (sound-then t.0 t.1.0).0).0 in
+  pub no_element_exactly : T (asks st c).element → Turn st lent c NoElement → (o.said.number ≡ 5) ↔ NoneFree (elem_side st)
+  no_element_exactly a t =
+      let e = exactly_5 st lent c o d in
+      let f = (full_exactly st (sound_then t.0 t.1.0).0).0 in
       ((λ n. f.0 (e.0 n).0.1), λ n. e.1 ((a, f.1 n), t))
 
-  pub no-shared-exactly : T (asks st c).shared → Turn st lent c NoShared → (o.said.number ≡ 6) ↔ NoneFree (sharedSide st)
-  no-shared-exactly a t =
-      let e = exactly-6 st lent c o d in
-      let f = (full-exactly st (sound-then t.0 t.1.0).0).1 in
+  pub no_shared_exactly : T (asks st c).shared → Turn st lent c NoShared → (o.said.number ≡ 6) ↔ NoneFree (shared_side st)
+  no_shared_exactly a t =
+      let e = exactly_6 st lent c o d in
+      let f = (full_exactly st (sound_then t.0 t.1.0).0).1 in
       ((λ n. f.0 (e.0 n).0.1), λ n. e.1 ((a, f.1 n), t))
 
 module _ (st : State) (lent : List ℕ) (o : Outcome) where
-  pub newRun-5 : (payload value size : ℕ) → AtDoor st lent (newRun payload value size) o → Turn st lent (newRun payload value size) NoElement → (o.said.number ≡ 5) ↔ NoneFree (elemSide st)
-  newRun-5 payload value size d = no-element-exactly st lent (newRun payload value size) o d tt
+  pub new_run-5 : (payload value size : ℕ) → AtDoor st lent (new_run payload value size) o → Turn st lent (new_run payload value size) NoElement → (o.said.number ≡ 5) ↔ NoneFree (elem_side st)
+  new_run-5 payload value size d = no_element_exactly st lent (new_run payload value size) o d tt
 
-  pub newRun-6 : (payload value size : ℕ) → AtDoor st lent (newRun payload value size) o → Turn st lent (newRun payload value size) NoShared → (o.said.number ≡ 6) ↔ NoneFree (sharedSide st)
-  newRun-6 payload value size d = no-shared-exactly st lent (newRun payload value size) o d tt
+  pub new_run-6 : (payload value size : ℕ) → AtDoor st lent (new_run payload value size) o → Turn st lent (new_run payload value size) NoShared → (o.said.number ≡ 6) ↔ NoneFree (shared_side st)
+  new_run-6 payload value size d = no_shared_exactly st lent (new_run payload value size) o d tt
 
-  pub insert-5 : (k : Key) (payload size : ℕ) → AtDoor st lent (insert k payload size) o → Turn st lent (insert k payload size) NoElement → (o.said.number ≡ 5) ↔ NoneFree (elemSide st)
-  insert-5 k payload size d = no-element-exactly st lent (insert k payload size) o d tt
+  pub insert_5 : (k : Key) (payload size : ℕ) → AtDoor st lent (insert k payload size) o → Turn st lent (insert k payload size) NoElement → (o.said.number ≡ 5) ↔ NoneFree (elem_side st)
+  insert_5 k payload size d = no_element_exactly st lent (insert k payload size) o d tt

@@ -3,14 +3,14 @@ use mathlib.Core.Path.{◌≡◌, refl, subst}
 use mathlib.Core.Logic.{inl}
 use mathlib.Core.List.{List, [], ◌∷◌, map}
 use Rattle.rules.specs.Tables.{State}
-use Rattle.rules.specs.Calls.{Call, newRun, insert, union, remove, Ready, step, freshStep}
+use Rattle.rules.specs.Calls.{Call, new_run, insert, union, remove, Ready, step, fresh_step}
 use Rattle.rules.proofs.Cases.{rules, key}
-use Rattle.rules.proofs.Worked.{fresh43, two, four, goesOn, single, reused}
-use Rattle.rules.proofs.laws.Lists.{All}
+use Rattle.rules.proofs.Worked.{fresh43, two, four, goes_on, single, reused}
+use Rattle.rules.proofs.Laws.Lists.{All}
 use Rattle.rules.specs.Undo.{Remembers}
 use Rattle.rules.specs.Keeping.{effect}
-use Rattle.rules.proofs.laws.Kept.{recalled, kept, kept_fresh}
-use Rattle.rules.proofs.laws.Dropped.{kept_memory}
+use Rattle.rules.proofs.Laws.Kept.{recalled, kept, kept_fresh}
+use Rattle.rules.proofs.Laws.Dropped.{kept_memory}
 
 -- the state after some calls that lend nothing
 after : State → List Call → State
@@ -29,13 +29,13 @@ ready-fresh = kept_fresh fresh43 4 3 refl
 abbrev runs : List (List Call)
 runs =
     -- P1 and P2; P4 and P7; P11
-    (newRun 10 100 0 ∷ insert (key 1 1) 11 0 ∷ insert (key 1 1) 12 0 ∷ newRun 20 200 0 ∷ []) ∷
-    (newRun 10 100 0 ∷ insert (key 1 1) 11 0 ∷ insert (key 1 1) 12 0 ∷ newRun 20 200 0 ∷ union (key 4 1) (key 1 1) ∷ remove (key 4 1) ∷ []) ∷
-    (newRun 10 100 0 ∷ newRun 20 200 0 ∷ remove (key 1 1) ∷ []) ∷
-    (newRun 10 100 0 ∷ newRun 20 200 0 ∷ remove (key 1 1) ∷ insert (key 2 1) 21 0 ∷ []) ∷
+    (new_run 10 100 0 ∷ insert (key 1 1) 11 0 ∷ insert (key 1 1) 12 0 ∷ new_run 20 200 0 ∷ []) ∷
+    (new_run 10 100 0 ∷ insert (key 1 1) 11 0 ∷ insert (key 1 1) 12 0 ∷ new_run 20 200 0 ∷ union (key 4 1) (key 1 1) ∷ remove (key 4 1) ∷ []) ∷
+    (new_run 10 100 0 ∷ new_run 20 200 0 ∷ remove (key 1 1) ∷ []) ∷
+    (new_run 10 100 0 ∷ new_run 20 200 0 ∷ remove (key 1 1) ∷ insert (key 2 1) 21 0 ∷ []) ∷
     []
 
-states : map (after fresh43) runs ≡ four ∷ goesOn ∷ single ∷ reused ∷ []
+states : map (after fresh43) runs ≡ four ∷ goes_on ∷ single ∷ reused ∷ []
 unfolding rules after
 states = refl
 
@@ -43,12 +43,12 @@ all_after : (rs : List (List Call)) → All Ready (map (after fresh43) rs)
 all_after [] = tt
 all_after (r ∷ rs) = (ready-after fresh43 ready-fresh (inl refl) r, all_after rs)
 
-pub sound-states : All Ready (four ∷ goesOn ∷ single ∷ reused ∷ [])
-sound-states = subst (All Ready) states (all_after runs)
+pub sound_states : All Ready (four ∷ goes_on ∷ single ∷ reused ∷ [])
+sound_states = subst (All Ready) states (all_after runs)
 
-pub ready-two : Ready two
+pub ready_two : Ready two
 unfolding rules after
-ready-two = ready-after fresh43 ready-fresh (inl refl) (newRun 10 100 0 ∷ insert (key 1 1) 11 0 ∷ [])
+ready_two = ready-after fresh43 ready-fresh (inl refl) (new_run 10 100 0 ∷ insert (key 1 1) 11 0 ∷ [])
 
-pub ready-four : Ready four
-ready-four = sound-states.0
+pub ready_four : Ready four
+ready_four = sound_states.0

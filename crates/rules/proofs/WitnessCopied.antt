@@ -6,17 +6,17 @@ use mathlib.Core.List.{List, [], ◌∷◌}
 use Prim.Native.Nat.{ℕ}
 use Rattle.rules.specs.Tables.{State}
 use Rattle.rules.specs.Slots.{empty}
-use Rattle.rules.specs.Calls.{Call, newRun, insert, remove, seal, Ready, step}
+use Rattle.rules.specs.Calls.{Call, new_run, insert, remove, seal, Ready, step}
 use Rattle.rules.specs.Undo.{Remembers}
 use Rattle.rules.specs.Keeping.{effect}
 use Rattle.rules.specs.Copy.{AtCopy}
 use Rattle.rules.specs.Copying.{CopyGives}
 use Rattle.rules.proofs.Cases.{rules, key}
-use Rattle.rules.proofs.Forged.{forged, value-unwhole}
+use Rattle.rules.proofs.Forged.{forged, value_unwhole}
 use Rattle.rules.proofs.CasesCopied.{copies, study, dirty, into, took, left}
-use Rattle.rules.proofs.laws.Kept.{recalled, kept, kept_fresh}
-use Rattle.rules.proofs.laws.Dropped.{kept_memory}
-use Rattle.rules.proofs.laws.TwoDoors.{both-pass}
+use Rattle.rules.proofs.Laws.Kept.{recalled, kept, kept_fresh}
+use Rattle.rules.proofs.Laws.Dropped.{kept_memory}
+use Rattle.rules.proofs.Laws.TwoDoors.{both_pass}
 
 abbrev run : State → List Call → State
 run st [] = st
@@ -28,25 +28,25 @@ run-ready st R M (c ∷ cs) = let lent : List ℕ = 0 ∷ 0 ∷ 0 ∷ [] in run-
 
 abbrev calls : List Call
 calls =
-    newRun 10 100 5 ∷ newRun 20 200 7 ∷ newRun 30 300 8 ∷ newRun 40 400 11 ∷ insert (key 2 1) 50 13 ∷ newRun 60 600 17 ∷ seal (key 4 1) ∷
+    new_run 10 100 5 ∷ new_run 20 200 7 ∷ new_run 30 300 8 ∷ new_run 40 400 11 ∷ insert (key 2 1) 50 13 ∷ new_run 60 600 17 ∷ seal (key 4 1) ∷
     remove (key 1 1) ∷ remove (key 3 1) ∷ remove (key 5 1) ∷ insert (key 2 1) 51 14 ∷ remove (key 6 1) ∷ []
 
-pub study-ready : Ready study
+pub study_ready : Ready study
 unfolding rules
-study-ready = run-ready (empty 7 5 1) (kept_fresh (dirty 7 5) 7 5 refl) (inl refl) calls
+study_ready = run-ready (empty 7 5 1) (kept_fresh (dirty 7 5) 7 5 refl) (inl refl) calls
 
 pub accepted : AtCopy (dirty 5 4) study (took (into 5 4) study)
 unfolding rules copies
-accepted = both-pass (dirty 5 4) study _ _ _ refl refl (study-ready.sound, inl refl) refl
+accepted = both_pass (dirty 5 4) study _ _ _ refl refl (study_ready.sound, inl refl) refl
 
 pub refused : AtCopy (dirty 4 3) study (left 5 (dirty 4 3) study)
 unfolding rules copies
-refused = both-pass (dirty 4 3) study _ _ _ refl refl (study-ready.sound, inl refl) refl
+refused = both_pass (dirty 4 3) study _ _ _ refl refl (study_ready.sound, inl refl) refl
 
 -- Ticket 7: a memory that no union leaves makes the source unsound, and only 2 is given
-pub two-of-memory : (n : ℕ) → CopyGives (dirty 1 1) (forged 0 0 0 7) n → n ≡ 2
+pub two_of_memory : (n : ℕ) → CopyGives (dirty 1 1) (forged 0 0 0 7) n → n ≡ 2
 unfolding rules
-two-of-memory n (inl (h, e)) = absurd (true≢false h)
-two-of-memory n (inr (h, inl (k, e))) = absurd (true≢false k)
-two-of-memory n (inr (h, inr (k, inl (u, e)))) = e
-two-of-memory n (inr (h, inr (k, inr (u, r)))) = absurd (u value-unwhole)
+two_of_memory n (inl (h, e)) = absurd (true≢false h)
+two_of_memory n (inr (h, inl (k, e))) = absurd (true≢false k)
+two_of_memory n (inr (h, inr (k, inl (u, e)))) = e
+two_of_memory n (inr (h, inr (k, inr (u, r)))) = absurd (u value_unwhole)

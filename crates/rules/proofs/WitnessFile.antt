@@ -12,20 +12,20 @@ use Rattle.rules.specs.Tables.{State}
 use Rattle.rules.specs.Refusals.{outcome}
 use Rattle.rules.specs.Calls.{Is}
 use Rattle.rules.specs.Bytes.{limit, Bytes}
-use Rattle.rules.specs.RunFile.{StoredRun, frameCount}
-use Rattle.rules.specs.WriteFile.{bytesIn}
-use Rattle.rules.specs.ReadFile.{readFile, read_step}
-use Rattle.rules.specs.Filing.{Stores, ReadGives, Words, compressedInto, Unsealed}
-use Rattle.rules.specs.Demand.{fromRead}
+use Rattle.rules.specs.RunFile.{StoredRun, frame_count}
+use Rattle.rules.specs.WriteFile.{bytes_in}
+use Rattle.rules.specs.ReadFile.{read_file, read_step}
+use Rattle.rules.specs.Filing.{Stores, ReadGives, Words, compressed_into, Unsealed}
+use Rattle.rules.specs.Demand.{from_read}
 use Rattle.rules.specs.Stale.{Since, filed, first}
 use Rattle.rules.proofs.Cases.{rules, key}
 use Rattle.rules.proofs.CasesCopied.{study, dirty}
-use Rattle.rules.proofs.CasesFile.{files, studyFile, studyRuns}
-use Rattle.rules.proofs.RefutedFile.{study-stores}
-use Rattle.rules.proofs.WitnessCopied.{study-ready}
-use Rattle.rules.proofs.laws.Tests.{le_is}
-use Rattle.rules.proofs.laws.FileFits.{words}
-use Rattle.rules.proofs.laws.Filing.{filing}
+use Rattle.rules.proofs.CasesFile.{files, study_file, study_runs}
+use Rattle.rules.proofs.RefutedFile.{study_stores}
+use Rattle.rules.proofs.WitnessCopied.{study_ready}
+use Rattle.rules.proofs.Laws.Tests.{le_is}
+use Rattle.rules.proofs.Laws.FileFits.{words}
+use Rattle.rules.proofs.Laws.Filing.{filing}
 
 -- numbers below a bound, by computation
 below : (n : ℕ) → 1 ≤ n → (t : List ℕ) → every (λ x. x <? n) t ≡ true → (i : ℕ) → get_or t i 0 < n
@@ -37,16 +37,16 @@ below n o (x ∷ t) e i = go (x <? n) (le_is (suc x) n) e i (below n o t)
     go true l e (suc i) f = f e i
     go false l e i f = absurd (false≢true e)
 
-pub study-words : Words study
-study-words = words study (below (limit 8) (lit≤ tt) study.elems refl) (below (limit 8) (lit≤ tt) study.shared refl)
+pub study_words : Words study
+study_words = words study (below (limit 8) (lit≤ tt) study.elems refl) (below (limit 8) (lit≤ tt) study.shared refl)
 
 -- into tables with exactly its room
 abbrev old : List ℕ
 old = 1 ∷ []
 
-pub study-back : ((outcome (dirty 3 2) [] (readFile old (dirty 3 2) (bytesIn 1 study))).said.number ≡ 0) × Unsealed (compressedInto (dirty 3 2) study) (outcome (dirty 3 2) [] (readFile old (dirty 3 2) (bytesIn 1 study))).state
+pub study_back : ((outcome (dirty 3 2) [] (read_file old (dirty 3 2) (bytes_in 1 study))).said.number ≡ 0) × Unsealed (compressed_into (dirty 3 2) study) (outcome (dirty 3 2) [] (read_file old (dirty 3 2) (bytes_in 1 study))).state
 unfolding rules
-study-back = filing.back old 1 (inl refl) (lit< tt) study study-ready study-words (dirty 3 2) refl (lit≤ tt) (lit≤ tt)
+study_back = filing.back old 1 (inl refl) (lit< tt) study study_ready study_words (dirty 3 2) refl (lit≤ tt) (lit≤ tt)
 
 -- a key that the read gave
 bytes_of : (b : List ℕ) → every (λ x. x <? 256) b ≡ true → Bytes b
@@ -57,34 +57,34 @@ bytes_of (x ∷ b) e = go (x <? 256) (le_is (suc x) 256) e (bytes_of b)
     go true l e f = (l, f e)
     go false l e f = absurd (false≢true e)
 
-pub study-bytes : Bytes studyFile
-study-bytes = bytes_of studyFile refl
+pub study_bytes : Bytes study_file
+study_bytes = bytes_of study_file refl
 
-pub key-filed : (e : (read_step (dirty 3 2) studyFile).said.number ≡ 0) → Since (key 2 1) (fromRead (dirty 3 2) studyFile study-bytes e)
+pub key-filed : (e : (read_step (dirty 3 2) study_file).said.number ≡ 0) → Since (key 2 1) (from_read (dirty 3 2) study_file study_bytes e)
 unfolding rules files
-key-filed e = filed (first (dirty 3 2) studyFile study-bytes e) refl
+key-filed e = filed (first (dirty 3 2) study_file study_bytes e) refl
 
 -- ---- 5 and none, where 6 is not given: the file holds no other runs
-only : (rs : List StoredRun) → Stores studyFile rs → rs ≡ studyRuns
-only rs s = filing.once studyFile rs studyRuns s study-stores
+only : (rs : List StoredRun) → Stores study_file rs → rs ≡ study_runs
+only rs s = filing.once study_file rs study_runs s study_stores
 
 module _ (n : ℕ) where
-  pub then-five : ReadGives old (dirty 2 2) studyFile n → n ≡ 5
+  pub then_five : ReadGives old (dirty 2 2) study_file n → n ≡ 5
   unfolding rules files
-  then-five (inl (h, q)) = absurd (true≢false h)
-  then-five (inr (h, inl (l, q))) = absurd (omega (arith, l))
-  then-five (inr (h, inr (l, inl (u, q)))) = absurd (u (inl refl))
-  then-five (inr (h, inr (l, inr (u, inl (d, q))))) = absurd (d studyRuns study-stores)
-  then-five (inr (h, inr (l, inr (u, inr (d, inl (m, q)))))) = absurd (omega (arith, m.2, ap length (only m.0 m.1)))
-  then-five (inr (h, inr (l, inr (u, inr (d, inr (m, inl (f, q))))))) = q
-  then-five (inr (h, inr (l, inr (u, inr (d, inr (m, inr (f, q))))))) = absurd (f (studyRuns, study-stores, lit< tt))
+  then_five (inl (h, q)) = absurd (true≢false h)
+  then_five (inr (h, inl (l, q))) = absurd (omega (arith, l))
+  then_five (inr (h, inr (l, inl (u, q)))) = absurd (u (inl refl))
+  then_five (inr (h, inr (l, inr (u, inl (d, q))))) = absurd (d study_runs study_stores)
+  then_five (inr (h, inr (l, inr (u, inr (d, inl (m, q)))))) = absurd (omega (arith, m.2, ap length (only m.0 m.1)))
+  then_five (inr (h, inr (l, inr (u, inr (d, inr (m, inl (f, q))))))) = q
+  then_five (inr (h, inr (l, inr (u, inr (d, inr (m, inr (f, q))))))) = absurd (f (study_runs, study_stores, lit< tt))
 
-  pub then-accepted : ReadGives old (dirty 3 2) studyFile n → n ≡ 0
+  pub then_accepted : ReadGives old (dirty 3 2) study_file n → n ≡ 0
   unfolding rules files
-  then-accepted (inl (h, q)) = absurd (true≢false h)
-  then-accepted (inr (h, inl (l, q))) = absurd (omega (arith, l))
-  then-accepted (inr (h, inr (l, inl (u, q)))) = absurd (u (inl refl))
-  then-accepted (inr (h, inr (l, inr (u, inl (d, q))))) = absurd (d studyRuns study-stores)
-  then-accepted (inr (h, inr (l, inr (u, inr (d, inl (m, q)))))) = absurd (omega (arith, m.2, ap length (only m.0 m.1)))
-  then-accepted (inr (h, inr (l, inr (u, inr (d, inr (m, inl (f, q))))))) = absurd (omega (arith, f.2, ap frameCount (only f.0 f.1)))
-  then-accepted (inr (h, inr (l, inr (u, inr (d, inr (m, inr (f, q))))))) = q
+  then_accepted (inl (h, q)) = absurd (true≢false h)
+  then_accepted (inr (h, inl (l, q))) = absurd (omega (arith, l))
+  then_accepted (inr (h, inr (l, inl (u, q)))) = absurd (u (inl refl))
+  then_accepted (inr (h, inr (l, inr (u, inl (d, q))))) = absurd (d study_runs study_stores)
+  then_accepted (inr (h, inr (l, inr (u, inr (d, inl (m, q)))))) = absurd (omega (arith, m.2, ap length (only m.0 m.1)))
+  then_accepted (inr (h, inr (l, inr (u, inr (d, inr (m, inl (f, q))))))) = absurd (omega (arith, f.2, ap frame_count (only f.0 f.1)))
+  then_accepted (inr (h, inr (l, inr (u, inr (d, inr (m, inr (f, q))))))) = q

@@ -3,8 +3,8 @@ use Rattle.std.specs.Prelude.{ℕ, suc, ◌<◌, ◌≡◌, ◌≢◌, ◌⊎◌
 use Rattle.rules.specs.declared.Key.{Key}
 use Rattle.rules.specs.declared.Cause.TheVariants.{NoSlot}
 use Rattle.rules.specs.Notation.{if◌then◌else◌, ◌<?◌}
-use Rattle.rules.specs.Tables.{blank, State, isLive, cause, LiveKey}
-use Rattle.rules.specs.Sound.{Frame, Header, Each, chainAt}
+use Rattle.rules.specs.Tables.{blank, State, is_live, cause, LiveKey}
+use Rattle.rules.specs.Sound.{Frame, Header, Each, chain_at}
 use Rattle.rules.specs.Refusals.{Outcome, shaped}
 use Rattle.rules.specs.Undo.{Whole}
 use Rattle.rules.specs.Calls.{Call, Ready, step}
@@ -39,8 +39,8 @@ pub record CopyOf (source copy : State) : Type 0 where
   pub generation : copy.head.generation ≡ source.head.generation
   pub undo : copy.head.undo ≡ blank
   -- each extent is 0 or a live slot, and so the last one; free slots are chained lowest first
-  pub extents : Each (λ t. (t.pool.extent ≡ 0) ⊎ T (isLive t t.pool.extent)) copy
-  pub rising : Each (λ t. (k : ℕ) → chainAt t (suc k) ≢ 0 → chainAt t k < chainAt t (suc k)) copy
+  pub extents : Each (λ t. (t.pool.extent ≡ 0) ⊎ T (is_live t t.pool.extent)) copy
+  pub rising : Each (λ t. (k : ℕ) → chain_at t (suc k) ≢ 0 → chain_at t k < chain_at t (suc k)) copy
   -- each call that only reads answers alike; a dead key has the same cause, but that a slot past the last live one is past the extent
   pub alike : (lent : List ℕ) (c : Call) → effect c ≡ reads → Alike (step copy lent c) (step source lent c)
   pub causes : (k : Key) → cause copy k ≡ (if copy.head.elems.extent <? k.slot then NoSlot else cause source k)

@@ -2,20 +2,20 @@
 use Rattle.std.specs.Prelude.{ℕ, Bool, false, ◌||◌}
 use Rattle.rules.specs.declared.Refusal.TheVariants.{NoElement, NoShared, OutOfRange}
 use Rattle.rules.specs.Notation.{if◌then◌else◌, ◌==◌, ◌<?◌}
-use Rattle.rules.specs.Tables.{lastGeneration, State}
+use Rattle.rules.specs.Tables.{last_generation, State}
 use Rattle.rules.specs.Slots.{overflows}
 use Rattle.rules.specs.Drains.{cleared}
-use Rattle.rules.specs.Compress.{canonicalFrames, canonicalClasses, renumberedIn}
+use Rattle.rules.specs.Compress.{canonical_frames, canonical_classes, renumbered_in}
 use Rattle.rules.specs.Undo.{Whole}
-use Rattle.rules.specs.TwoTables.{TwoRuling, refuse, accept, TwoOutcome, twoOutcome, AtTwoDoors}
+use Rattle.rules.specs.TwoTables.{TwoRuling, refuse, accept, TwoOutcome, two_outcome, AtTwoDoors}
 
 -- the target then: all frames of the source with the generation `g`, and nothing to undo; whatever it held is gone
 abbrev pub moved : (target source : State) → (g : ℕ) → State
-moved target source g = renumberedIn target.head.elems.capacity target.head.shared.capacity source (canonicalFrames source) (canonicalClasses source) g
+moved target source g = renumbered_in target.head.elems.capacity target.head.shared.capacity source (canonical_frames source) (canonical_classes source) g
 
 -- 13: not in the range of a generation; of the numbers that a u32 can be, only 0 is not
 unfoldable pub is_none : (g : ℕ) → Bool
-is_none g = (g == 0) || (lastGeneration <? g)
+is_none g = (g == 0) || (last_generation <? g)
 
 -- the call: 13; then 5 and 6, by live numbers. An empty source is not touched, any other is cleared, and its overflow said
 unfoldable pub transfer : (target source : State) → (g : ℕ) → TwoRuling
@@ -27,8 +27,8 @@ transfer target source g =
     accept (overflows source) (moved target source g) (cleared source)
 
 -- at the inner door, which rests on the soundness of both
-abbrev pub transferStep : (target source : State) → (g : ℕ) → TwoOutcome
-transferStep target source g = twoOutcome target source (transfer target source g)
+abbrev pub transfer_step : (target source : State) → (g : ℕ) → TwoOutcome
+transfer_step target source g = two_outcome target source (transfer target source g)
 
 -- at the host's door: 2 is asked of the source and of the target
 abbrev pub AtMove : (target source : State) → (g : ℕ) → TwoOutcome → Type 0

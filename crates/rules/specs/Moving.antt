@@ -1,9 +1,9 @@
 -- Ticket 12: what is claimed of a move, apart from its rule: when it is refused, what the target has then, and what is left of the source.
 use Rattle.std.specs.Prelude.{ℕ, ◌+◌, ◌<◌, ◌≡◌, ◌≢◌, ◌⊎◌, Bool, false, []}
-use Rattle.rules.specs.Tables.{lastGeneration, generationOf, State, blank}
+use Rattle.rules.specs.Tables.{last_generation, generation_of, State, blank}
 use Rattle.rules.specs.Sound.{Frame}
 use Rattle.rules.specs.Refusals.{shaped}
-use Rattle.rules.specs.Compress.{canonicalFrames, canonicalClasses, place_of, packedIn}
+use Rattle.rules.specs.Compress.{canonical_frames, canonical_classes, place_of, packed_in}
 use Rattle.rules.specs.Undo.{Whole}
 use Rattle.rules.specs.Calls.{clear, Ready, step}
 use Rattle.rules.specs.Renaming.{SameRuns}
@@ -16,7 +16,7 @@ MoveGives target source g =
     give 1 when shaped source ≡ false else
     give 1 when shaped target ≡ false else
     give 2 when (Whole source × Whole target → ⊥) else
-    give 13 when (g ≡ 0) ⊎ (lastGeneration < g) else
+    give 13 when (g ≡ 0) ⊎ (last_generation < g) else
     give 5 when target.head.elems.capacity < source.head.elems.live else
     give 6 when target.head.shared.capacity < source.head.shared.live else
     accepted
@@ -24,11 +24,11 @@ MoveGives target source g =
 -- the target has the source's runs up to the renaming of canonical compression, all with the given generation
 pub record MovedTo (target source : State) (g : ℕ) (now : State) : Type 0 where
   pub ready : Ready now
-  pub runs : SameRuns source now (place_of (canonicalFrames source)) (place_of (canonicalClasses source))
+  pub runs : SameRuns source now (place_of (canonical_frames source)) (place_of (canonical_classes source))
   pub generation : now.head.generation ≡ g
-  pub generations : (s : ℕ) → Frame now s → generationOf now.elems s ≡ g
-  pub elems : now.head.elems ≡ packedIn target.head.elems.capacity source.head.elems.live
-  pub shared : now.head.shared ≡ packedIn target.head.shared.capacity source.head.shared.live
+  pub generations : (s : ℕ) → Frame now s → generation_of now.elems s ≡ g
+  pub elems : now.head.elems ≡ packed_in target.head.elems.capacity source.head.elems.live
+  pub shared : now.head.shared ≡ packed_in target.head.shared.capacity source.head.shared.live
   pub undo : now.head.undo ≡ blank
 
 -- the source is as clear leaves it, its overflow told; an empty one is not touched, and has nothing to undo as it stands

@@ -16,18 +16,18 @@ abbrev pub total : List StoredFrame → ℕ
 total fs = sum (map (λ f. f.size) fs)
 
 -- the bytes of a frame, of a run's body, and of all bodies back to back
-unfoldable pub frameBytes : (version : ℕ) → StoredFrame → List ℕ
-frameBytes v f = little 8 f.payload ++ little 4 f.size
+unfoldable pub frame_bytes : (version : ℕ) → StoredFrame → List ℕ
+frame_bytes v f = little 8 f.payload ++ little 4 f.size
 
-unfoldable pub bodyBytes : (version : ℕ) → StoredRun → List ℕ
-bodyBytes v r = little 8 r.value ++ little 8 (total r.frames) ++ little 4 (length r.frames) ++ flat (map (frameBytes v) r.frames)
+unfoldable pub body_bytes : (version : ℕ) → StoredRun → List ℕ
+body_bytes v r = little 8 r.value ++ little 8 (total r.frames) ++ little 4 (length r.frames) ++ flat (map (frame_bytes v) r.frames)
 
 -- how many they are
-abbrev pub frameLength : (version : ℕ) → ℕ
-frameLength v = 12
+abbrev pub frame_length : (version : ℕ) → ℕ
+frame_length v = 12
 
-abbrev pub bodyLength : (version : ℕ) → StoredRun → ℕ
-bodyLength v r = 20 + length r.frames * frameLength v
+abbrev pub body_length : (version : ℕ) → StoredRun → ℕ
+body_length v r = 20 + length r.frames * frame_length v
 
 -- the contents: where each body begins, the first at `at`, and its length
 pub record Entry : Type 0 where
@@ -36,25 +36,25 @@ pub record Entry : Type 0 where
 
 unfoldable pub entries : (version at : ℕ) → List StoredRun → List Entry
 entries v at [] = []
-entries v at (r ∷ rs) = record { offset = at; long = bodyLength v r } ∷ entries v (at + bodyLength v r) rs
+entries v at (r ∷ rs) = record { offset = at; long = body_length v r } ∷ entries v (at + body_length v r) rs
 
-unfoldable pub entryBytes : Entry → List ℕ
-entryBytes e = little 4 e.offset ++ little 4 e.long
+unfoldable pub entry_bytes : Entry → List ℕ
+entry_bytes e = little 4 e.offset ++ little 4 e.long
 
 -- where the bodies of so many runs begin
-abbrev pub firstBody : (runs : ℕ) → ℕ
-firstBody n = 8 + n * 8
+abbrev pub first_body : (runs : ℕ) → ℕ
+first_body n = 8 + n * 8
 
 -- the file: its version, how many runs, the contents, the bodies
-unfoldable pub afterVersion : (version : ℕ) → List StoredRun → List ℕ
-afterVersion v rs = little 4 (length rs) ++ flat (map entryBytes (entries v (firstBody (length rs)) rs)) ++ flat (map (bodyBytes v) rs)
+unfoldable pub after_version : (version : ℕ) → List StoredRun → List ℕ
+after_version v rs = little 4 (length rs) ++ flat (map entry_bytes (entries v (first_body (length rs)) rs)) ++ flat (map (body_bytes v) rs)
 
 unfoldable pub file : (version : ℕ) → List StoredRun → List ℕ
-file v rs = little 4 v ++ afterVersion v rs
+file v rs = little 4 v ++ after_version v rs
 
 -- reading: a frame; a body, not empty and its total the sum; an entry of the contents
-unfoldable pub storedFrame : (version : ℕ) → Reader StoredFrame
-storedFrame v = do
+unfoldable pub stored_frame : (version : ℕ) → Reader StoredFrame
+stored_frame v = do
   payload ← number 8
   size ← number 4
   return (record { payload = payload; size = size })
@@ -64,7 +64,7 @@ body v = do
   value ← number 8
   said ← number 8
   count ← number 4
-  fs ← times count (storedFrame v)
+  fs ← times count (stored_frame v)
   if (1 ≤? count) && (said == total fs) then return (record { value = value; frames = fs }) else reject
 
 unfoldable pub entry : Reader Entry
@@ -78,14 +78,14 @@ unfoldable pub bodies : (version at : ℕ) → List Entry → Reader (List Store
 bodies v at [] = return []
 bodies v at (e ∷ es) = do
   r ← body v
-  rs ← if (e.offset == at) && (e.long == bodyLength v r) then bodies v (at + bodyLength v r) es else reject
+  rs ← if (e.offset == at) && (e.long == body_length v r) then bodies v (at + body_length v r) es else reject
   return (r ∷ rs)
 
 unfoldable pub runs : (version : ℕ) → Reader (List StoredRun)
 runs v = do
   count ← number 4
   table ← times count entry
-  bodies v (firstBody count) table
+  bodies v (first_body count) table
 
 -- and nothing after
 pub data Parsed : Type 0 where
@@ -102,8 +102,8 @@ unfoldable pub parse : (version : ℕ) → List ℕ → Parsed
 parse v b = whole (runs v (drop 4 b))
 
 -- how many frames there are
-abbrev pub frameCount : List StoredRun → ℕ
-frameCount rs = sum (map (λ r. length r.frames) rs)
+abbrev pub frame_count : List StoredRun → ℕ
+frame_count rs = sum (map (λ r. length r.frames) rs)
 
 -- the numbers of a file have the room that it gives them, and no run is empty
 pub record FrameFits (version : ℕ) (f : StoredFrame) : Type 0 where
@@ -123,4 +123,4 @@ pub record EntryFits (e : Entry) : Type 0 where
 pub record Fits (version : ℕ) (rs : List StoredRun) : Type 0 where
   pub count : length rs < limit 4
   pub runs : All (RunFits version) rs
-  pub contents : All EntryFits (entries version (firstBody (length rs)) rs)
+  pub contents : All EntryFits (entries version (first_body (length rs)) rs)

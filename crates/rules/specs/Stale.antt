@@ -4,20 +4,20 @@ use Rattle.rules.specs.declared.Key.{Key}
 use Rattle.rules.specs.Tables.{cell, State, LiveKey}
 use Rattle.rules.specs.Refusals.{Outcome}
 use Rattle.rules.specs.Slots.{overflows}
-use Rattle.rules.specs.Runs.{keyValues}
-use Rattle.rules.specs.Drains.{recordWidth, allDrained}
-use Rattle.rules.specs.Calls.{Call, newRun, insert, remove, removeShared, drain, drainAll, clear, compress, compressWith, lookup, AtDoor}
+use Rattle.rules.specs.Runs.{key_values}
+use Rattle.rules.specs.Drains.{record_width, all_drained}
+use Rattle.rules.specs.Calls.{Call, new_run, insert, remove, remove_shared, drain, drain_all, clear, compress, compress_with, lookup, AtDoor}
 use Rattle.rules.specs.Renaming.{Compresses}
 use Rattle.rules.specs.TwoTables.{TwoOutcome}
 use Rattle.rules.specs.Copy.{AtCopy}
 use Rattle.rules.specs.Bytes.{Bytes}
 use Rattle.rules.specs.ReadFile.{read_step}
-use Rattle.rules.specs.Demand.{Sequence, and_then, fromRead, andRead, copiedTo, headerOf, fromMove, moved_to, movedFrom}
+use Rattle.rules.specs.Demand.{Sequence, and_then, from_read, and_read, copied_to, header_of, from_move, moved_to, moved_from}
 use Rattle.rules.specs.Move.{AtMove}
 
 -- Rules 10 and 11: the overflow mark of the `i`th record that a drain wrote (docs/LAYOUT.md); it wrote as many as it answered
-abbrev pub overMark : Outcome → (i : ℕ) → ℕ
-overMark o i = cell recordWidth o.lent 5 i
+abbrev pub over_mark : Outcome → (i : ℕ) → ℕ
+over_mark o i = cell record_width o.lent 5 i
 
 abbrev pub Written : Outcome → (i : ℕ) → Type 0
 Written o i = (1 ≤ i) × (i ≤ get_or o.said.values 0 0)
@@ -26,39 +26,39 @@ Written o i = (1 ≤ i) × (i ≤ get_or o.said.values 0 0)
 pub data Ends (st : State) (o : Outcome) : Call → Type 0 where
   -- an answer said overflow; a drain says it on the record concerned
   answer : {c : Call} → o.said.over ≡ true → Ends st o c
-  onRecord : (k : Key) (i : ℕ) → Written o i → overMark o i ≡ 1 → Ends st o (drain k)
-  onRecordOfAll : (i : ℕ) → Written o i → overMark o i ≡ 1 → Ends st o drainAll
+  on_record : (k : Key) (i : ℕ) → Written o i → over_mark o i ≡ 1 → Ends st o (drain k)
+  on_record_of_all : (i : ℕ) → Written o i → over_mark o i ≡ 1 → Ends st o drain_all
   -- a compression was asked to reset
   reset : Ends st o (compress true)
-  resetWith : Ends st o (compressWith true)
+  reset_with : Ends st o (compress_with true)
   -- drain-all passed the last generation in its closing clear
-  closing : o.said.number ≡ 0 → overflows (allDrained st.head.shared.live st) ≡ true → Ends st o drainAll
+  closing : o.said.number ≡ 0 → overflows (all_drained st.head.shared.live st) ≡ true → Ends st o drain_all
 
 -- a call more, refused or not, that does not end the premise
 pub data Quietly (s : Sequence) : Sequence → Type 0 where
   call : (lent : List ℕ) (c : Call) (o : Outcome) (d : AtDoor s.state lent c o) → (Ends s.state o c → ⊥) → Quietly s (and_then s lent c o d)
   -- Ticket 11: a read that is refused
-  unread : (file : List ℕ) (b : Bytes file) → (read_step s.state file).said.number ≢ 0 → Quietly s (andRead s file b)
+  unread : (file : List ℕ) (b : Bytes file) → (read_step s.state file).said.number ≢ 0 → Quietly s (and_read s file b)
   -- Ticket 10: for a copied key the premise reaches back into the source, and goes on with the target's calls from the copy on; for what the target held before, no sequence goes on
-  copied : (target : State) (o : TwoOutcome) (d : AtCopy target s.state o) (e : o.said.number ≡ 0) → Quietly s (copiedTo s target o d e)
+  copied : (target : State) (o : TwoOutcome) (d : AtCopy target s.state o) (e : o.said.number ≡ 0) → Quietly s (copied_to s target o d e)
   -- Ticket 12: a move to these tables that is refused; and one from them, which is a clear and must not say overflow
   unmoved : (from : Sequence) (g : ℕ) (o : TwoOutcome) (d : AtMove s.state from.state g o) → o.said.number ≢ 0 → Quietly s (moved_to from s g o d)
-  left : (target : State) (g : ℕ) (o : TwoOutcome) (d : AtMove target s.state g o) → o.said.over ≡ false → Quietly s (movedFrom s target g o d)
+  left : (target : State) (g : ℕ) (o : TwoOutcome) (d : AtMove target s.state g o) → o.said.over ≡ false → Quietly s (moved_from s target g o d)
 
 -- Ticket 11: an accepted read, the first call of all or a later one, is a fresh call that puts its frames in
 pub data ReadIn : Sequence → Type 0 where
-  first : (st : State) (file : List ℕ) (b : Bytes file) (e : (read_step st file).said.number ≡ 0) → ReadIn (fromRead st file b e)
-  next : (s : Sequence) (file : List ℕ) (b : Bytes file) → (read_step s.state file).said.number ≡ 0 → ReadIn (andRead s file b)
+  first : (st : State) (file : List ℕ) (b : Bytes file) (e : (read_step st file).said.number ≡ 0) → ReadIn (from_read st file b e)
+  next : (s : Sequence) (file : List ℕ) (b : Bytes file) → (read_step s.state file).said.number ≡ 0 → ReadIn (and_read s file b)
 
 -- the accepted call in which a frame got the key `k`: it answered it; a compression gives every frame a new one, answered or not
 pub data Gives (o : Outcome) (k : Key) : Call → Type 0 where
-  begun : (payload value size : ℕ) → o.said.values ≡ keyValues k → Gives o k (newRun payload value size)
-  put : (j : Key) (payload size : ℕ) → o.said.values ≡ keyValues k → Gives o k (insert j payload size)
+  begun : (payload value size : ℕ) → o.said.values ≡ key_values k → Gives o k (new_run payload value size)
+  put : (j : Key) (payload size : ℕ) → o.said.values ≡ key_values k → Gives o k (insert j payload size)
   renewed : {c : Call} → Compresses c → LiveKey o.state k → Gives o k c
 
 -- Ticket 12: for the target an accepted move, the first call of all or a later one, is a fresh call that puts its frames in
 pub data MovedIn : Sequence → Type 0 where
-  onto : (s : Sequence) (target : State) (g : ℕ) (o : TwoOutcome) (d : AtMove target s.state g o) (e : o.said.number ≡ 0) → MovedIn (fromMove s target g o d e)
+  onto : (s : Sequence) (target : State) (g : ℕ) (o : TwoOutcome) (d : AtMove target s.state g o) (e : o.said.number ≡ 0) → MovedIn (from_move s target g o d e)
   into : (s t : Sequence) (g : ℕ) (o : TwoOutcome) (d : AtMove t.state s.state g o) → o.said.number ≡ 0 → MovedIn (moved_to s t g o d)
 
 -- a sequence in which a frame got the key `k`, and since then the premise held
@@ -76,9 +76,9 @@ pub data Later (s : Sequence) : Sequence → Type 0 where
 -- a call by which the frame of the live key `k` is removed, drained, cleared or compressed away
 pub data Takes (st : State) (k : Key) : Call → Type 0 where
   removed : Takes st k (remove k)
-  removedShared : (j : Key) → headerOf st j ≡ headerOf st k → Takes st k (removeShared j)
-  drained : (j : Key) → headerOf st j ≡ headerOf st k → Takes st k (drain j)
-  drainedAll : Takes st k drainAll
+  removed_shared : (j : Key) → header_of st j ≡ header_of st k → Takes st k (remove_shared j)
+  drained : (j : Key) → header_of st j ≡ header_of st k → Takes st k (drain j)
+  drained_all : Takes st k drain_all
   cleared : Takes st k clear
   compressed : {c : Call} → Compresses c → Takes st k c
 
@@ -86,7 +86,7 @@ pub data Takes (st : State) (k : Key) : Call → Type 0 where
 pub data TakenOut (k : Key) (s : Sequence) : Sequence → Type 0 where
   taken : LiveKey s.state k → (lent : List ℕ) (c : Call) (o : Outcome) (d : AtDoor s.state lent c o) → o.said.number ≡ 0 → (Ends s.state o c → ⊥) → Takes s.state k c → TakenOut k s (and_then s lent c o d)
   -- Ticket 12: or with a move from these tables
-  movedAway : LiveKey s.state k → (target : State) (g : ℕ) (o : TwoOutcome) (d : AtMove target s.state g o) → o.said.number ≡ 0 → o.said.over ≡ false → TakenOut k s (movedFrom s target g o d)
+  moved_away : LiveKey s.state k → (target : State) (g : ℕ) (o : TwoOutcome) (d : AtMove target s.state g o) → o.said.number ≡ 0 → o.said.over ≡ false → TakenOut k s (moved_from s target g o d)
 
 -- THE CLAIM
 pub record StaysDead : Type 0 where

@@ -6,8 +6,8 @@ use Rattle.rules.specs.declared.Refusal.{Refusal}
 use Rattle.rules.specs.declared.Refusal.TheVariants.{Shape, Unsound}
 use Rattle.rules.specs.Notation.{if◌then◌else◌}
 use Rattle.rules.specs.Tables.{State, state_of}
-use Rattle.rules.specs.Refusals.{Said, saidRefused, saidAccepted, shaped}
-use Rattle.rules.specs.Answers.{saidDone}
+use Rattle.rules.specs.Refusals.{Said, said_refused, said_accepted, shaped}
+use Rattle.rules.specs.Answers.{said_done}
 use Rattle.rules.specs.Calls.{Is}
 
 -- What the rule of such a call decides: a refusal; or whether it says overflow, and both states then
@@ -22,28 +22,28 @@ pub record TwoOutcome : Type 0 where
   pub source : State
 
 -- a refusal leaves both as they were
-abbrev pub twoOutcome : (target source : State) → TwoRuling → TwoOutcome
-twoOutcome target source (refuse r) = record { said = saidRefused r; target = target; source = source }
-twoOutcome target source (accept over target' source') = record { said = saidAccepted [] over; target = target'; source = source' }
+abbrev pub two_outcome : (target source : State) → TwoRuling → TwoOutcome
+two_outcome target source (refuse r) = record { said = said_refused r; target = target; source = source }
+two_outcome target source (accept over target' source') = record { said = said_accepted [] over; target = target'; source = source' }
 
 -- the result of a call that leaves the source alone, and what then stands in the target's tables
-abbrev pub afterTarget : HeadDone → (elems shared : List ℕ) → (source : State) → TwoOutcome
-afterTarget r elems shared source = record { said = saidDone r.answer r.over; target = state_of r.head elems shared; source = source }
+abbrev pub after_target : HeadDone → (elems shared : List ℕ) → (source : State) → TwoOutcome
+after_target r elems shared source = record { said = said_done r.answer r.over; target = state_of r.head elems shared; source = source }
 
 -- and that of a call that changes both
-abbrev pub after_both : HeadsDone → (elems shared fromElems fromShared : List ℕ) → TwoOutcome
-after_both r elems shared fromElems fromShared = record { said = saidDone r.answer r.over; target = state_of r.head elems shared; source = state_of r.source fromElems fromShared }
+abbrev pub after_both : HeadsDone → (elems shared from_elems from_shared : List ℕ) → TwoOutcome
+after_both r elems shared from_elems from_shared = record { said = said_done r.answer r.over; target = state_of r.head elems shared; source = state_of r.source from_elems from_shared }
 
 -- Order: 1 for the source, 1 for the target; then 2, told whether all that must be sound is
-unfoldable pub twoDoors : (target source : State) → (sound : Bool) → TwoRuling → TwoRuling
-twoDoors target source sound ruling =
+unfoldable pub two_doors : (target source : State) → (sound : Bool) → TwoRuling → TwoRuling
+two_doors target source sound ruling =
     if shaped source then (if shaped target then (if sound then ruling else refuse Unsound) else refuse Shape) else refuse Shape
 
 -- What is promised of the outcome at the host's door, where `Asked` is what must be sound
 pub record AtTwoDoors (target source : State) (Asked : Type 0) (ruling : TwoRuling) (o : TwoOutcome) : Type 0 where
   pub sound : Bool
   pub decided : shaped source ≡ true → shaped target ≡ true → Is Asked sound
-  pub same : o ≡ twoOutcome target source (twoDoors target source sound ruling)
+  pub same : o ≡ two_outcome target source (two_doors target source sound ruling)
 
 -- Refusals, once more and apart from the rules: the sentences of such a call in their order. The first that holds gives its number; where none does, the call is accepted.
 infixr 5 give◌when◌else◌

@@ -2,25 +2,25 @@
 use Rattle.std.specs.Prelude.{ℕ, false, List, [], ◌∷◌, map, length}
 use Rattle.rules.specs.declared.Refusal.TheVariants.{Short}
 use Rattle.rules.specs.Notation.{if◌then◌else◌, ◌<?◌}
-use Rattle.rules.specs.Tables.{payloadOf, class_of, bytes_of, value_of, State}
+use Rattle.rules.specs.Tables.{payload_of, class_of, bytes_of, value_of, State}
 use Rattle.rules.specs.Refusals.{Ruling, refuse, accept}
 use Rattle.rules.specs.Drains.{ring}
-use Rattle.rules.specs.Compress.{lowestSlots}
+use Rattle.rules.specs.Compress.{lowest_slots}
 use Rattle.rules.specs.RunFile.{StoredFrame, StoredRun, file}
 
 -- the frame in a slot, its run from there on, and all runs, as a file has them
-abbrev pub frameIn : State → (slot : ℕ) → StoredFrame
-frameIn st x = record { payload = payloadOf st.elems x; size = bytes_of st.elems x }
+abbrev pub frame_in : State → (slot : ℕ) → StoredFrame
+frame_in st x = record { payload = payload_of st.elems x; size = bytes_of st.elems x }
 
-abbrev pub runIn : State → (slot : ℕ) → StoredRun
-runIn st x = record { value = value_of st.shared (class_of st.elems x); frames = map (frameIn st) (ring st x) }
+abbrev pub run_in : State → (slot : ℕ) → StoredRun
+run_in st x = record { value = value_of st.shared (class_of st.elems x); frames = map (frame_in st) (ring st x) }
 
-unfoldable pub runsIn : State → List StoredRun
-runsIn st = map (runIn st) (lowestSlots st)
+unfoldable pub runs_in : State → List StoredRun
+runs_in st = map (run_in st) (lowest_slots st)
 
 -- the call: 7 when the whole file does not fit; the answer is how many bytes are written, and nothing changes
-abbrev pub bytesIn : (version : ℕ) → State → List ℕ
-bytesIn v st = file v (runsIn st)
+abbrev pub bytes_in : (version : ℕ) → State → List ℕ
+bytes_in v st = file v (runs_in st)
 
-unfoldable pub writeFile : (version : ℕ) → State → (lent : List ℕ) → Ruling
-writeFile v st lent = if length lent <? length (bytesIn v st) then refuse Short else accept (length (bytesIn v st) ∷ []) false st (bytesIn v st)
+unfoldable pub write_file : (version : ℕ) → State → (lent : List ℕ) → Ruling
+write_file v st lent = if length lent <? length (bytes_in v st) then refuse Short else accept (length (bytes_in v st) ∷ []) false st (bytes_in v st)

@@ -2,10 +2,10 @@
 
 ghost use Rattle.std.specs.Prelude.{◌≡◌, ◌+◌, ◌≤◌};
 ghost use Rattle.rules.specs.Notation.{◌==◌};
-ghost use Rattle.rules.specs.Tables.{mostSlots, lastGeneration, withPools, withGeneration, blank, remembering};
-ghost use Rattle.rules.specs.Slots.{slot_of, isFull, freed, raised};
+ghost use Rattle.rules.specs.Tables.{most_slots, last_generation, with_pools, with_generation, blank, remembering};
+ghost use Rattle.rules.specs.Slots.{slot_of, is_full, freed, raised};
 
-// Numbers to an element slot and to a shared slot (docs/LAYOUT.md); in the rules, frameWidth and headerWidth.
+// Numbers to an element slot and to a shared slot (docs/LAYOUT.md); in the rules, frame_width and header_width.
 pub const FRAME: u64 = 6;
 
 pub const HEADER: u64 = 5;
@@ -34,10 +34,10 @@ pub const MARK: u64 = 3;
 
 pub const TOTAL: u64 = 4;
 
-// Ticket 6: in the rules, mostBytes.
+// Ticket 6: in the rules, most_bytes.
 pub const MOST_BYTES: u64 = 4294967295;
 
-// Tables 3: in the rules, lastGeneration.
+// Tables 3: in the rules, last_generation.
 pub const LAST_GENERATION: u64 = 4294967295;
 
 // Tables and head: what the head holds of one table.
@@ -53,7 +53,7 @@ pub struct Pool {
 impl Pool {
     // Refusals 5 and 6: no slot can be taken.
     pub fn is_full(self) -> bool
-        ensures { isFull self ≡ result }
+        ensures { is_full self ≡ result }
     {
         if self.root == 0 {
             self.extent == self.capacity
@@ -64,7 +64,7 @@ impl Pool {
 
     // Rules 3: the slot that is taken next.
     pub fn slot(self) -> u64
-        requires { self.extent ≤ mostSlots }
+        requires { self.extent ≤ most_slots }
         ensures { result ≡ slot_of self }
     {
         if self.root == 0 {
@@ -76,7 +76,7 @@ impl Pool {
 
     // Rules 3: the free root is taken, and `next` becomes the root.
     pub fn pop(mut self, next: u64) -> Self
-        requires { self.live ≤ mostSlots }
+        requires { self.live ≤ most_slots }
         ensures { result ≡ record { capacity = self.capacity; extent = self.extent; root = next; live = self.live + 1 } }
     {
         self.root = next;
@@ -86,7 +86,7 @@ impl Pool {
 
     // Rules 3: the slot past the extent is taken.
     pub fn grow(mut self) -> Self
-        requires { (self.extent ≤ mostSlots) × (self.live ≤ mostSlots) }
+        requires { (self.extent ≤ most_slots) × (self.live ≤ most_slots) }
         ensures { result ≡ record { capacity = self.capacity; extent = self.extent + 1; root = self.root; live = self.live + 1 } }
     {
         self.extent = self.extent + 1;
@@ -153,8 +153,8 @@ impl Head {
 
     // Rules 3, of an element slot: the free root is taken, and `next` becomes the root.
     pub fn pop_element(mut self, next: u64) -> Self
-        requires { self.elems.live ≤ mostSlots }
-        ensures { result ≡ withPools self (record { capacity = self.elems.capacity; extent = self.elems.extent; root = next; live = self.elems.live + 1 }) self.shared }
+        requires { self.elems.live ≤ most_slots }
+        ensures { result ≡ with_pools self (record { capacity = self.elems.capacity; extent = self.elems.extent; root = next; live = self.elems.live + 1 }) self.shared }
     {
         let pool = self.elems.pop(next);
         let none = BLANK;
@@ -165,8 +165,8 @@ impl Head {
 
     // Rules 3: the slot past the extent is taken.
     pub fn grow_element(mut self) -> Self
-        requires { (self.elems.extent ≤ mostSlots) × (self.elems.live ≤ mostSlots) }
-        ensures { result ≡ withPools self (record { capacity = self.elems.capacity; extent = self.elems.extent + 1; root = self.elems.root; live = self.elems.live + 1 }) self.shared }
+        requires { (self.elems.extent ≤ most_slots) × (self.elems.live ≤ most_slots) }
+        ensures { result ≡ with_pools self (record { capacity = self.elems.capacity; extent = self.elems.extent + 1; root = self.elems.root; live = self.elems.live + 1 }) self.shared }
     {
         let pool = self.elems.grow();
         let none = BLANK;
@@ -178,7 +178,7 @@ impl Head {
     // Rules 3: an element slot is freed.
     pub fn push_element(mut self, slot: u64) -> Self
         requires { 1 ≤ self.elems.live }
-        ensures { result ≡ withPools self (freed self.elems slot) self.shared }
+        ensures { result ≡ with_pools self (freed self.elems slot) self.shared }
     {
         let pool = self.elems.push(slot);
         let none = BLANK;
@@ -189,8 +189,8 @@ impl Head {
 
     // The same of a shared slot.
     pub fn pop_shared(mut self, next: u64) -> Self
-        requires { self.shared.live ≤ mostSlots }
-        ensures { result ≡ withPools self self.elems (record { capacity = self.shared.capacity; extent = self.shared.extent; root = next; live = self.shared.live + 1 }) }
+        requires { self.shared.live ≤ most_slots }
+        ensures { result ≡ with_pools self self.elems (record { capacity = self.shared.capacity; extent = self.shared.extent; root = next; live = self.shared.live + 1 }) }
     {
         let pool = self.shared.pop(next);
         let none = BLANK;
@@ -201,8 +201,8 @@ impl Head {
 
     // The same of a shared slot.
     pub fn grow_shared(mut self) -> Self
-        requires { (self.shared.extent ≤ mostSlots) × (self.shared.live ≤ mostSlots) }
-        ensures { result ≡ withPools self self.elems (record { capacity = self.shared.capacity; extent = self.shared.extent + 1; root = self.shared.root; live = self.shared.live + 1 }) }
+        requires { (self.shared.extent ≤ most_slots) × (self.shared.live ≤ most_slots) }
+        ensures { result ≡ with_pools self self.elems (record { capacity = self.shared.capacity; extent = self.shared.extent + 1; root = self.shared.root; live = self.shared.live + 1 }) }
     {
         let pool = self.shared.grow();
         let none = BLANK;
@@ -214,7 +214,7 @@ impl Head {
     // The same of a shared slot.
     pub fn push_shared(mut self, slot: u64) -> Self
         requires { 1 ≤ self.shared.live }
-        ensures { result ≡ withPools self self.elems (freed self.shared slot) }
+        ensures { result ≡ with_pools self self.elems (freed self.shared slot) }
     {
         let pool = self.shared.push(slot);
         let none = BLANK;
@@ -225,8 +225,8 @@ impl Head {
 
     // Rules, below the list: after the last generation comes 1.
     pub fn raise(mut self) -> Raised
-        requires { self.generation ≤ lastGeneration }
-        ensures { result ≡ record { head = withGeneration self (raised self.generation); over = self.generation == lastGeneration } }
+        requires { self.generation ≤ last_generation }
+        ensures { result ≡ record { head = with_generation self (raised self.generation); over = self.generation == last_generation } }
     {
         let none = BLANK;
         self.undo = none;

@@ -8,20 +8,20 @@ use Rattle.rules.specs.declared.Joined.{Joined}
 use Rattle.rules.specs.declared.Number.{Number}
 use Rattle.rules.specs.declared.Refusal.{Refusal}
 use Rattle.rules.specs.declared.Rest.{Rest}
-use Rattle.rules.specs.Refusals.{number_of, Said, saidRefused, saidAccepted}
-use Rattle.rules.proofs.laws.DemandThree.{not-accepted}
-use Rattle.sample.specs.Sample.{refusalOf, answerAt, Listed, Agrees, restAnswers, JoinedAs, key_of, KeyAt, RingOf, OnlyIf}
+use Rattle.rules.specs.Refusals.{number_of, Said, said_refused, said_accepted}
+use Rattle.rules.proofs.Laws.DemandThree.{not-accepted}
+use Rattle.sample.specs.Sample.{refusal_of, answer_at, Listed, Agrees, rest_answers, JoinedAs, key_of, KeyAt, RingOf, OnlyIf}
 
 -- what is said of the case is said of the answer
 pub told : (said same : Said) (sample : List ℕ) (r : Bool) → said ≡ same → OnlyIf (Agrees same sample) r → OnlyIf (Agrees said sample) r
 told said same sample r e h = subst (λ (s : Said). OnlyIf (Agrees s sample) r) (sym e) h
 
 -- a refusal, by its number
-pub refused : (r : Refusal) (n : ℕ) (sample : List ℕ) → n ≡ number_of r → n ≡ refusalOf sample → Agrees (saidRefused r) sample
+pub refused : (r : Refusal) (n : ℕ) (sample : List ℕ) → n ≡ number_of r → n ≡ refusal_of sample → Agrees (said_refused r) sample
 refused r n sample e q = record { number = sym e ∙ q; values = λ z. absurd (not-accepted r z) }
 
 -- one number
-pub one : (n : ℕ) (sample : List ℕ) (r : Bool) → OnlyIf ((0 ≡ refusalOf sample) × (n ≡ answerAt sample 0)) r → OnlyIf (Agrees (saidAccepted (n ∷ []) false) sample) r
+pub one : (n : ℕ) (sample : List ℕ) (r : Bool) → OnlyIf ((0 ≡ refusal_of sample) × (n ≡ answer_at sample 0)) r → OnlyIf (Agrees (said_accepted (n ∷ []) false) sample) r
 one n sample true h = record { number = h.0; values = λ e. (h.1, tt) }
 one n sample false h = tt
 
@@ -36,25 +36,25 @@ then holds more false f h = tt
 
 -- ---- a removal
 
-pub pair : (last value : ℕ) (sample : List ℕ) (r : Bool) → OnlyIf ((last ≡ answerAt sample 1) × (value ≡ answerAt sample 2)) r → OnlyIf (Listed 1 (last ∷ value ∷ []) sample) r
+pub pair : (last value : ℕ) (sample : List ℕ) (r : Bool) → OnlyIf ((last ≡ answer_at sample 1) × (value ≡ answer_at sample 2)) r → OnlyIf (Listed 1 (last ∷ value ∷ []) sample) r
 pair last value sample true h = (h.0, (h.1, tt))
 pair last value sample false h = tt
 
-pub rest-told : (rest same : Rest) (sample : List ℕ) (r : Bool) → rest ≡ same → OnlyIf (Listed 1 (restAnswers same) sample) r → OnlyIf (Listed 1 (restAnswers rest) sample) r
-rest-told rest same sample r e h = subst (λ (x : Rest). OnlyIf (Listed 1 (restAnswers x) sample) r) (sym e) h
+pub rest-told : (rest same : Rest) (sample : List ℕ) (r : Bool) → rest ≡ same → OnlyIf (Listed 1 (rest_answers same) sample) r → OnlyIf (Listed 1 (rest_answers rest) sample) r
+rest-told rest same sample r e h = subst (λ (x : Rest). OnlyIf (Listed 1 (rest_answers x) sample) r) (sym e) h
 
-pub taken_out : (payload : ℕ) (rest : Rest) (sample : List ℕ) (p r : Bool) → p ≡ true → OnlyIf ((0 ≡ refusalOf sample) × (payload ≡ answerAt sample 0)) p
-    → OnlyIf (Listed 1 (restAnswers rest) sample) r → OnlyIf (Agrees (saidAccepted (payload ∷ restAnswers rest) false) sample) r
-taken_out payload rest sample p true e h k = let a = passed ((0 ≡ refusalOf sample) × (payload ≡ answerAt sample 0)) p e h in record { number = a.0; values = λ e. (a.1, k) }
+pub taken_out : (payload : ℕ) (rest : Rest) (sample : List ℕ) (p r : Bool) → p ≡ true → OnlyIf ((0 ≡ refusal_of sample) × (payload ≡ answer_at sample 0)) p
+    → OnlyIf (Listed 1 (rest_answers rest) sample) r → OnlyIf (Agrees (said_accepted (payload ∷ rest_answers rest) false) sample) r
+taken_out payload rest sample p true e h k = let a = passed ((0 ≡ refusal_of sample) × (payload ≡ answer_at sample 0)) p e h in record { number = a.0; values = λ e. (a.1, k) }
 taken_out payload rest sample p false e h k = tt
 
 -- ---- a ring: a key more
 
-pub ring-more : (i width at : ℕ) (written given sample : List ℕ) (r : Bool) → r ≡ true → at ≡ i * width → RingOf i width written given sample
-    → OnlyIf (KeyAt written at (key_of given (answerAt sample i))) r → RingOf (i + 1) width written given sample
-ring-more i width at written given sample r e p all h =
-    below_more (λ (k : ℕ). KeyAt written (k * width) (key_of given (answerAt sample k))) i all
-    (subst (λ (n : ℕ). KeyAt written n (key_of given (answerAt sample i))) p (passed (KeyAt written at (key_of given (answerAt sample i))) r e h))
+pub ring_more : (i width at : ℕ) (written given sample : List ℕ) (r : Bool) → r ≡ true → at ≡ i * width → RingOf i width written given sample
+    → OnlyIf (KeyAt written at (key_of given (answer_at sample i))) r → RingOf (i + 1) width written given sample
+ring_more i width at written given sample r e p all h =
+    below_more (λ (k : ℕ). KeyAt written (k * width) (key_of given (answer_at sample k))) i all
+    (subst (λ (n : ℕ). KeyAt written n (key_of given (answer_at sample i))) p (passed (KeyAt written at (key_of given (answer_at sample i))) r e h))
 
 -- ---- a union
 

@@ -9,36 +9,36 @@ use Rattle.rules.specs.declared.Removed.{Removed}
 use Rattle.rules.specs.declared.Removed.TheVariants as removed
 use Rattle.rules.specs.declared.Rest.{Rest}
 use Rattle.rules.specs.declared.Rest.TheVariants as rest
-use Rattle.rules.specs.Refusals.{Said, saidRefused, saidAccepted}
+use Rattle.rules.specs.Refusals.{Said, said_refused, said_accepted}
 
 -- the refusal's number, 0 where the call was accepted; how many answers; the answer at a place
-abbrev pub refusalOf : List ℕ → ℕ
-refusalOf sample = get_or sample 9 0
+abbrev pub refusal_of : List ℕ → ℕ
+refusal_of sample = get_or sample 9 0
 
 abbrev pub count_of : List ℕ → ℕ
 count_of sample = get_or sample 10 0
 
-abbrev pub answerAt : List ℕ → ℕ → ℕ
-answerAt sample at = get_or sample (11 + at) 0
+abbrev pub answer_at : List ℕ → ℕ → ℕ
+answer_at sample at = get_or sample (11 + at) 0
 
 -- an answer's first values are those of the record
 abbrev pub Listed : (at : ℕ) → (values sample : List ℕ) → Type 0
 Listed at [] sample = Unit
-Listed at (v ∷ vs) sample = (v ≡ answerAt sample at) × Listed (at + 1) vs sample
+Listed at (v ∷ vs) sample = (v ≡ answer_at sample at) × Listed (at + 1) vs sample
 
 -- the Rust said the same; of a refusal, the number, since it tells no cause
 pub record Agrees (said : Said) (sample : List ℕ) : Type 0 where
-  pub number : said.number ≡ refusalOf sample
+  pub number : said.number ≡ refusal_of sample
   pub values : said.number ≡ 0 → Listed 0 said.values sample
 
 -- removal: the payload, then 0 and 0 where the run goes on, or 1 and its value
-abbrev pub restAnswers : Rest → List ℕ
-restAnswers rest.GoesOn = 0 ∷ 0 ∷ []
-restAnswers (rest.Last value) = 1 ∷ value ∷ []
+abbrev pub rest_answers : Rest → List ℕ
+rest_answers rest.GoesOn = 0 ∷ 0 ∷ []
+rest_answers (rest.Last value) = 1 ∷ value ∷ []
 
-abbrev pub removedAnswers : Removed → Said
-removedAnswers (removed.Out payload others) = saidAccepted (payload ∷ restAnswers others) false
-removedAnswers (removed.Refused r) = saidRefused r
+abbrev pub removed_answers : Removed → Said
+removed_answers (removed.Out payload others) = said_accepted (payload ∷ rest_answers others) false
+removed_answers (removed.Refused r) = said_refused r
 
 -- ---- keys: in the sample a frame has a number, and a key is kept for each as it is given, 256 slots and then 256 generations
 
@@ -47,15 +47,15 @@ key_of given frame = record { slot = get_or given frame 0; generation = get_or g
 
 -- union: the value that was, the kept key, told as its frame, and how many frames moved
 pub record JoinsAs (was : ℕ) (kept : Key) (moved : ℕ) (given sample : List ℕ) : Type 0 where
-  pub accepted : 0 ≡ refusalOf sample
-  pub value : was ≡ answerAt sample 0
-  pub slot : kept.slot ≡ (key_of given (answerAt sample 1)).slot
-  pub generation : kept.generation ≡ (key_of given (answerAt sample 1)).generation
-  pub frames : moved ≡ answerAt sample 2
+  pub accepted : 0 ≡ refusal_of sample
+  pub value : was ≡ answer_at sample 0
+  pub slot : kept.slot ≡ (key_of given (answer_at sample 1)).slot
+  pub generation : kept.generation ≡ (key_of given (answer_at sample 1)).generation
+  pub frames : moved ≡ answer_at sample 2
 
 abbrev pub JoinedAs : Joined → (given sample : List ℕ) → Type 0
 JoinedAs (joined.Into was kept moved) given sample = JoinsAs was kept moved given sample
-JoinedAs (joined.Refused r) given sample = Agrees (saidRefused r) sample
+JoinedAs (joined.Refused r) given sample = Agrees (said_refused r) sample
 
 -- a frame's key stands at a place of what was written
 pub record KeyAt (written : List ℕ) (at : ℕ) (key : Key) : Type 0 where
@@ -64,28 +64,28 @@ pub record KeyAt (written : List ℕ) (at : ℕ) (key : Key) : Type 0 where
 
 -- a ring: the keys of the first `count` answers, in their order, `width` numbers apart
 abbrev pub RingOf : (count width : ℕ) (written given sample : List ℕ) → Type 0
-RingOf count width written given sample = (i : ℕ) → i < count → KeyAt written (i * width) (key_of given (answerAt sample i))
+RingOf count width written given sample = (i : ℕ) → i < count → KeyAt written (i * width) (key_of given (answer_at sample i))
 
 -- list: the ring, which is all that the record answers
 pub record ListsAs (n : ℕ) (written given sample : List ℕ) : Type 0 where
-  pub accepted : 0 ≡ refusalOf sample
+  pub accepted : 0 ≡ refusal_of sample
   pub count : n ≡ count_of sample
   pub ring : RingOf n 2 written given sample
 
 abbrev pub ListedAs : Number → (written given sample : List ℕ) → Type 0
 ListedAs (number.Is n) written given sample = ListsAs n written given sample
-ListedAs (number.Refused r) written given sample = Agrees (saidRefused r) sample
+ListedAs (number.Refused r) written given sample = Agrees (said_refused r) sample
 
 -- drain: the ring, and then the run's value, which the last record has
 pub record DrainsAs (n : ℕ) (written given sample : List ℕ) : Type 0 where
-  pub accepted : 0 ≡ refusalOf sample
+  pub accepted : 0 ≡ refusal_of sample
   pub count : n + 1 ≡ count_of sample
-  pub value : get_or written (n * 6 - 2) 0 ≡ answerAt sample n
+  pub value : get_or written (n * 6 - 2) 0 ≡ answer_at sample n
   pub ring : RingOf n 6 written given sample
 
 abbrev pub DrainedAs : Number → (written given sample : List ℕ) → Type 0
 DrainedAs (number.Is n) written given sample = DrainsAs n written given sample
-DrainedAs (number.Refused r) written given sample = Agrees (saidRefused r) sample
+DrainedAs (number.Refused r) written given sample = Agrees (said_refused r) sample
 
 -- a test is passed only where it holds
 abbrev pub OnlyIf : Type 0 → Bool → Type 0

@@ -1,8 +1,8 @@
 // Whether what the door says is what the Rust said: each test is passed only where they agree (Running against the Rust).
 ghost use Rattle.std.specs.Prelude.{◌≡◌, false};
-ghost use Rattle.rules.specs.Refusals.{saidRefused};
-ghost use Rattle.rules.specs.Answers.{saidDone, saidNumber, saidSame};
-ghost use Rattle.sample.specs.Sample.{refusalOf, answerAt, Listed, Agrees, restAnswers, removedAnswers, OnlyIf};
+ghost use Rattle.rules.specs.Refusals.{said_refused};
+ghost use Rattle.rules.specs.Answers.{said_done, said_number, said_same};
+ghost use Rattle.sample.specs.Sample.{refusal_of, answer_at, Listed, Agrees, rest_answers, removed_answers, OnlyIf};
 
 use numbers::answers::number_of;
 use rules::{Done, Number, Refusal, Removed, Rest, Same};
@@ -23,7 +23,7 @@ pub fn number(x: u8) -> u64
 
 // The refusal is the record's.
 pub fn is_refused(refusal: Refusal, sample: &[u8; 32]) -> bool
-    ensures { OnlyIf (Agrees (saidRefused refusal) sample.now) result }
+    ensures { OnlyIf (Agrees (said_refused refusal) sample.now) result }
 {
     if number_of(refusal) == number(sample[REFUSED]) {
         return true;
@@ -33,7 +33,7 @@ pub fn is_refused(refusal: Refusal, sample: &[u8; 32]) -> bool
 
 // The call was accepted, and a number is the answer at its place.
 pub fn is_answer(at: usize, n: u64, sample: &[u8; 32]) -> bool
-    ensures { OnlyIf ((0 ≡ refusalOf sample.now) × (n ≡ answerAt sample.now at)) result }
+    ensures { OnlyIf ((0 ≡ refusal_of sample.now) × (n ≡ answer_at sample.now at)) result }
 {
     if 21 <= at {
         return false;
@@ -49,7 +49,7 @@ pub fn is_answer(at: usize, n: u64, sample: &[u8; 32]) -> bool
 
 // One number.
 pub fn is_number(answer: Number, sample: &[u8; 32]) -> bool
-    ensures { OnlyIf (Agrees (saidNumber answer false) sample.now) result }
+    ensures { OnlyIf (Agrees (said_number answer false) sample.now) result }
 {
     match answer {
         Number::Is(n) => is_answer(0, n, sample),
@@ -59,7 +59,7 @@ pub fn is_number(answer: Number, sample: &[u8; 32]) -> bool
 
 // An answer that has no values.
 pub fn is_done(answer: Done, sample: &[u8; 32]) -> bool
-    ensures { OnlyIf (Agrees (saidDone answer false) sample.now) result }
+    ensures { OnlyIf (Agrees (said_done answer false) sample.now) result }
 {
     match answer {
         Done::Done => {
@@ -74,7 +74,7 @@ pub fn is_done(answer: Done, sample: &[u8; 32]) -> bool
 
 // Yes or no.
 pub fn is_same(answer: Same, sample: &[u8; 32]) -> bool
-    ensures { OnlyIf (Agrees (saidSame answer) sample.now) result }
+    ensures { OnlyIf (Agrees (said_same answer) sample.now) result }
 {
     match answer {
         Same::Yes => is_answer(0, 1, sample),
@@ -85,7 +85,7 @@ pub fn is_same(answer: Same, sample: &[u8; 32]) -> bool
 
 // Whether the run goes on without the frame, and its value if not.
 fn is_rest(rest: Rest, sample: &[u8; 32]) -> bool
-    ensures { OnlyIf (Listed 1 (restAnswers rest) sample.now) result }
+    ensures { OnlyIf (Listed 1 (rest_answers rest) sample.now) result }
 {
     match rest {
         Rest::GoesOn => is_pair(0, 0, sample),
@@ -94,7 +94,7 @@ fn is_rest(rest: Rest, sample: &[u8; 32]) -> bool
 }
 
 fn is_pair(last: u64, value: u64, sample: &[u8; 32]) -> bool
-    ensures { OnlyIf ((last ≡ answerAt sample.now 1) × (value ≡ answerAt sample.now 2)) result }
+    ensures { OnlyIf ((last ≡ answer_at sample.now 1) × (value ≡ answer_at sample.now 2)) result }
 {
     if last != number(sample[FIRST + 1]) {
         return false;
@@ -107,7 +107,7 @@ fn is_pair(last: u64, value: u64, sample: &[u8; 32]) -> bool
 
 // A removal: the payload, and the rest of the run.
 pub fn is_removed(answer: Removed, sample: &[u8; 32]) -> bool
-    ensures { OnlyIf (Agrees (removedAnswers answer) sample.now) result }
+    ensures { OnlyIf (Agrees (removed_answers answer) sample.now) result }
 {
     match answer {
         Removed::Out { payload, rest } => {

@@ -2,7 +2,7 @@
 ghost use Rattle.std.specs.Prelude.{ℕ, ◌≡◌, List, []};
 ghost use Rattle.rules.specs.Tables.{state_of};
 ghost use Rattle.rules.specs.Script.{output};
-ghost use Rattle.lines.specs.Stream.{freshState};
+ghost use Rattle.lines.specs.Stream.{fresh_state};
 ghost use Rattle.stdio.specs.Handed.{Handed};
 ghost use Rattle.blocks.specs.Progress.{Working, Doing, Ran};
 
@@ -15,7 +15,7 @@ const CAPACITY: u64 = 512;
 
 // Rules 2: the head over zero tables.
 fn fresh_head() -> Head
-    ensures { result ≡ freshState.head }
+    ensures { result ≡ fresh_state.head }
 {
     let pool = Pool {
         capacity: CAPACITY,
@@ -63,7 +63,7 @@ fn run(
     line: &mut [u8],
     block: &mut [u8],
 ) -> Sent
-    requires { Working (state_of freshState.head elems.old shared.old) keys.old out.old line.old 0 0 × (state_of freshState.head elems.old shared.old ≡ freshState) }
+    requires { Working (state_of fresh_state.head elems.old shared.old) keys.old out.old line.old 0 0 × (state_of fresh_state.head elems.old shared.old ≡ fresh_state) }
     ensures { Ran result }
 {
     let mut p = Progress {

@@ -2,26 +2,26 @@
 ghost use Rattle.std.specs.Prelude.{◌≡◌, [], ◌∷◌, ◌*◌, ◌≤◌, length};
 ghost use Rattle.std.proofs.lemmas.List.Edits.{sets};
 ghost use Rattle.rules.specs.Tables.{row, state_of};
-ghost use Rattle.rules.specs.Seals.{sealWidth};
+ghost use Rattle.rules.specs.Seals.{seal_width};
 ghost use Rattle.rules.specs.Calls as calls;
 ghost use Rattle.rules.specs.Calls.{Ready, step};
 ghost use Rattle.rules.specs.Answers.{afterSeal};
 ghost use Rattle.slots.specs.Asked.{Within, Along};
-ghost use Rattle.rings.specs.Answered.{placesAlong};
-ghost use Rattle.seals.specs.Answered.{framePlace};
+ghost use Rattle.rings.specs.Answered.{places_along};
+ghost use Rattle.seals.specs.Answered.{frame_place};
 
 use rules::{
     CLASS, COUNT, FRAME, Found, GENERATION, HEADER, Head, HeadSeal, Key, MARK, NEXT, PAYLOAD,
     Refusal, Seal, VALUE,
 };
 
-// Numbers to a place of a seal (docs/LAYOUT.md); in the rules, sealWidth.
+// Numbers to a place of a seal (docs/LAYOUT.md); in the rules, seal_width.
 pub const SEAL_WIDTH: u64 = 3;
 
 // A frame's key and payload are written at a place, counted from 1.
 fn write_place(out: &mut [u64], place: u64, slot: u64, generation: u64, payload: u64)
-    requires { Within sealWidth out.old place }
-    ensures { out.new ≡ row sealWidth out.old place (slot ∷ generation ∷ payload ∷ []) }
+    requires { Within seal_width out.old place }
+    ensures { out.new ≡ row seal_width out.old place (slot ∷ generation ∷ payload ∷ []) }
 {
     slots::put(out, SEAL_WIDTH, place, 0, slot);
     slots::put(out, SEAL_WIDTH, place, 1, generation);
@@ -30,8 +30,8 @@ fn write_place(out: &mut [u64], place: u64, slot: u64, generation: u64, payload:
 
 // Keys and payloads of `n` frames along next from `x` are written, from the first place on.
 fn write_places(elems: &[u64], n: u64, x: u64, out: &mut [u64])
-    requires { Along elems.now n x × (n * sealWidth ≤ length out.old) }
-    ensures { out.new ≡ sets out.old 0 (placesAlong (framePlace elems.now) elems.now n x) }
+    requires { Along elems.now n x × (n * seal_width ≤ length out.old) }
+    ensures { out.new ≡ sets out.old 0 (places_along (frame_place elems.now) elems.now n x) }
 {
     let mut left = n;
     let mut at = x;

@@ -2,15 +2,15 @@
 // Ported from get_shared_mut of surject_arena.rs (triple_arena 0.15.1, NOTICE).
 ghost use Rattle.std.specs.Prelude.{◌≡◌, []};
 ghost use Rattle.rules.specs.Tables.{state_of};
-ghost use Rattle.rules.specs.Calls.{Ready, step, setElement, setShared};
-ghost use Rattle.rules.specs.Answers.{afterNumber};
+ghost use Rattle.rules.specs.Calls.{Ready, step, set_element, set_shared};
+ghost use Rattle.rules.specs.Answers.{after_number};
 
 use rules::{CLASS, FRAME, Found, HEADER, Head, HeadNumber, Key, Number, PAYLOAD, Refusal, VALUE};
 
 // A new payload; the answer is the old one.
 pub fn set(head: Head, elems: &mut [u64], shared: &[u64], key: Key, payload: u64) -> HeadNumber
     requires { Ready (state_of head elems.old shared.now) }
-    ensures { afterNumber result elems.new shared.now [] ≡ step (state_of head elems.old shared.now) [] (setElement key payload) }
+    ensures { after_number result elems.new shared.now [] ≡ step (state_of head elems.old shared.now) [] (set_element key payload) }
 {
     let x = match slots::find(head, elems, key) {
         Found::Live(x) => x,
@@ -35,7 +35,7 @@ pub fn set(head: Head, elems: &mut [u64], shared: &[u64], key: Key, payload: u64
 // A new value of the class; the answer is the old one.
 pub fn set_shared(head: Head, elems: &[u64], shared: &mut [u64], key: Key, value: u64) -> HeadNumber
     requires { Ready (state_of head elems.now shared.old) }
-    ensures { afterNumber result elems.now shared.new [] ≡ step (state_of head elems.now shared.old) [] (setShared key value) }
+    ensures { after_number result elems.now shared.new [] ≡ step (state_of head elems.now shared.old) [] (set_shared key value) }
 {
     let x = match slots::find(head, elems, key) {
         Found::Live(x) => x,

@@ -25,7 +25,7 @@ pub fn fits(capacity: u64, width: u64, table: &[u64]) -> bool
 
 // Refusals 1, of both.
 pub fn both_fit(elems: &[u64], shared: &[u64], frames: u64, headers: u64) -> bool
-    ensures { (head : Head) → sound.bothFit (state_of head elems.now shared.now) frames headers ≡ result }
+    ensures { (head : Head) → sound.both_fit (state_of head elems.now shared.now) frames headers ≡ result }
 {
     if !fits(frames, FRAME, elems) {
         return false;

@@ -1,7 +1,7 @@
 // The slots of the lent tables: leaves, rows, taking and freeing, lookup and ring links (Modules 1 to 3).
 ghost use Rattle.std.specs.Prelude.{◌≡◌, List, [], ◌∷◌, ℕ, ◌+◌, ◌*◌, ◌≤◌, ◌<◌, length};
-ghost use Rattle.rules.specs.Tables.{frameWidth, headerWidth, cell, put, row, state_of, withPools, elemSide, sharedSide, previousOf, next_of, class_of, isSealed};
-ghost use Rattle.rules.specs.Slots.{taken, freeElement, freeShared};
+ghost use Rattle.rules.specs.Tables.{frame_width, header_width, cell, put, row, state_of, with_pools, elem_side, shared_side, previous_of, next_of, class_of, is_sealed};
+ghost use Rattle.rules.specs.Slots.{taken, free_element, free_shared};
 ghost use Rattle.rules.specs.Runs.{frame, counted, linked, exchanged, rewritten};
 ghost use Rattle.slots.specs.Asked.{Within, Cell, Takes, Next, Between, Along, OnLive};
 ghost use Rattle.slots.specs.Answered.{Looks, spliced};
@@ -37,8 +37,8 @@ pub fn write_frame(
     next: u64,
     size: u64,
 )
-    requires { Within frameWidth e.old slot }
-    ensures { e.new ≡ row frameWidth e.old slot (frame generation payload class previous next size) }
+    requires { Within frame_width e.old slot }
+    ensures { e.new ≡ row frame_width e.old slot (frame generation payload class previous next size) }
 {
     put(e, FRAME, slot, GENERATION, generation);
     put(e, FRAME, slot, PAYLOAD, payload);
@@ -50,8 +50,8 @@ pub fn write_frame(
 
 // All fields of a shared slot, whose run is not sealed.
 pub fn write_header(s: &mut [u64], slot: u64, count: u64, value: u64, next: u64, total: u64)
-    requires { Within headerWidth s.old slot }
-    ensures { s.new ≡ row headerWidth s.old slot (count ∷ value ∷ next ∷ 0 ∷ total ∷ []) }
+    requires { Within header_width s.old slot }
+    ensures { s.new ≡ row header_width s.old slot (count ∷ value ∷ next ∷ 0 ∷ total ∷ []) }
 {
     put(s, HEADER, slot, COUNT, count);
     put(s, HEADER, slot, VALUE, value);
@@ -62,7 +62,7 @@ pub fn write_header(s: &mut [u64], slot: u64, count: u64, value: u64, next: u64,
 
 // The count of a class, and Ticket 6's total.
 pub fn recount(s: &mut [u64], class: u64, count: u64, total: u64)
-    requires { Within headerWidth s.old class }
+    requires { Within header_width s.old class }
     ensures { s.new ≡ counted s.old class count total }
 {
     put(s, HEADER, class, COUNT, count);
@@ -71,8 +71,8 @@ pub fn recount(s: &mut [u64], class: u64, count: u64, total: u64)
 
 // Rules 3, taking an element slot.
 pub fn take_frame(head: Head, elems: &[u64]) -> Head
-    requires { Takes head.elems frameWidth elems.now }
-    ensures { (s : List ℕ) → result ≡ withPools head (taken (elemSide (state_of head elems.now s))) head.shared }
+    requires { Takes head.elems frame_width elems.now }
+    ensures { (s : List ℕ) → result ≡ with_pools head (taken (elem_side (state_of head elems.now s))) head.shared }
 {
     let root = head.elems.root;
     if root == 0 {
@@ -84,8 +84,8 @@ pub fn take_frame(head: Head, elems: &[u64]) -> Head
 
 // Rules 3, taking a shared slot.
 pub fn take_header(head: Head, shared: &[u64]) -> Head
-    requires { Takes head.shared headerWidth shared.now }
-    ensures { (e : List ℕ) → result ≡ withPools head head.elems (taken (sharedSide (state_of head e shared.now))) }
+    requires { Takes head.shared header_width shared.now }
+    ensures { (e : List ℕ) → result ≡ with_pools head head.elems (taken (shared_side (state_of head e shared.now))) }
 {
     let root = head.shared.root;
     if root == 0 {
@@ -97,8 +97,8 @@ pub fn take_header(head: Head, shared: &[u64]) -> Head
 
 // Rules 3, freeing an element slot.
 pub fn free_frame(head: Head, elems: &mut [u64], slot: u64) -> Head
-    requires { Within frameWidth elems.old slot × (1 ≤ head.elems.live) }
-    ensures { (s : List ℕ) → state_of result elems.new s ≡ freeElement (state_of head elems.old s) slot }
+    requires { Within frame_width elems.old slot × (1 ≤ head.elems.live) }
+    ensures { (s : List ℕ) → state_of result elems.new s ≡ free_element (state_of head elems.old s) slot }
 {
     write_frame(elems, slot, 0, 0, 0, 0, head.elems.root, 0);
     head.push_element(slot)
@@ -106,8 +106,8 @@ pub fn free_frame(head: Head, elems: &mut [u64], slot: u64) -> Head
 
 // Rules 3, freeing a shared slot.
 pub fn free_header(head: Head, shared: &mut [u64], slot: u64) -> Head
-    requires { Within headerWidth shared.old slot × (1 ≤ head.shared.live) }
-    ensures { (e : List ℕ) → state_of result e shared.new ≡ freeShared (state_of head e shared.old) slot }
+    requires { Within header_width shared.old slot × (1 ≤ head.shared.live) }
+    ensures { (e : List ℕ) → state_of result e shared.new ≡ free_shared (state_of head e shared.old) slot }
 {
     write_header(shared, slot, 0, 0, head.shared.root, 0);
     head.push_shared(slot)
@@ -115,7 +115,7 @@ pub fn free_header(head: Head, shared: &mut [u64], slot: u64) -> Head
 
 // Tables 4 and Ticket 5: a key is looked up.
 pub fn find(head: Head, elems: &[u64], key: Key) -> Found
-    requires { head.elems.extent * frameWidth ≤ length elems.now }
+    requires { head.elems.extent * frame_width ≤ length elems.now }
     ensures { (s : List ℕ) → Looks (state_of head elems.now s) key result }
 {
     let slot = key.slot;
@@ -138,7 +138,7 @@ pub fn find(head: Head, elems: &[u64], key: Key) -> Found
 // Ticket 1: the run of the frame in a live slot is sealed.
 pub fn is_sealed(head: Head, elems: &[u64], shared: &[u64], x: u64) -> bool
     requires { OnLive (state_of head elems.now shared.now) x }
-    ensures { isSealed (state_of head elems.now shared.now) x ≡ result }
+    ensures { is_sealed (state_of head elems.now shared.now) x ≡ result }
 {
     let class = get(elems, FRAME, CLASS, x);
     let mark = get(shared, HEADER, MARK, class);
@@ -147,7 +147,7 @@ pub fn is_sealed(head: Head, elems: &[u64], shared: &[u64], x: u64) -> bool
 
 // Rules 6 and 7: the slot `b` stands immediately after `a`.
 pub fn link(e: &mut [u64], a: u64, b: u64)
-    requires { Within frameWidth e.old a × Within frameWidth e.old b }
+    requires { Within frame_width e.old a × Within frame_width e.old b }
     ensures { e.new ≡ linked e.old a b }
 {
     put(e, FRAME, a, NEXT, b);
@@ -156,7 +156,7 @@ pub fn link(e: &mut [u64], a: u64, b: u64)
 
 // Rules 5: the slot `y` is written as a frame immediately after `x`, in its class, which is the answer.
 pub fn splice(e: &mut [u64], x: u64, y: u64, generation: u64, payload: u64, size: u64) -> u64
-    requires { Next e.old x × Within frameWidth e.old y }
+    requires { Next e.old x × Within frame_width e.old y }
     ensures { (result ≡ class_of e.old x) × (e.new ≡ spliced e.old x y generation payload size) }
 {
     let class = get(e, FRAME, CLASS, x);
@@ -181,7 +181,7 @@ pub fn exchange(e: &mut [u64], x: u64, y: u64)
 // Rules 7: the frame leaves its ring.
 pub fn unlink(e: &mut [u64], x: u64)
     requires { Between e.old x }
-    ensures { e.new ≡ linked e.old (previousOf e.old x) (next_of e.old x) }
+    ensures { e.new ≡ linked e.old (previous_of e.old x) (next_of e.old x) }
 {
     let previous = get(e, FRAME, PREVIOUS, x);
     let next = get(e, FRAME, NEXT, x);

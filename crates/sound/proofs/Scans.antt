@@ -8,10 +8,10 @@ use native.Mathlib.Omega.{arith}
 use native.Mathlib.Decide.{ℕ_discrete}
 use lib.ListN.{length, length-append}
 use Rattle.marks.specs.Marks.{marked, Added}
-use Rattle.rules.specs.Tables.{generationOf, class_of, next_of, count_of, total_of, State}
-use Rattle.rules.proofs.laws.Lists.{All, In, Out, NoDup, all-at, all_of, in_parts, in_left, in_right, nodup_append}
-use Rattle.rules.proofs.laws.Count.{lives-le, fewer}
-use Rattle.rules.proofs.laws.Rounds.{Within, Fit, Round, went, went-once}
+use Rattle.rules.specs.Tables.{generation_of, class_of, next_of, count_of, total_of, State}
+use Rattle.rules.proofs.Laws.Lists.{All, In, Out, NoDup, all-at, all_of, in_parts, in_left, in_right, nodup_append}
+use Rattle.rules.proofs.Laws.Count.{lives_le, fewer}
+use Rattle.rules.proofs.Laws.Rounds.{Within, Fit, Round, went, went_once}
 use Rattle.turns.specs.Turns.{FreeOk}
 use Rattle.sound.specs.Scans.{FrameAt, FirstAt, Run, frames, classes, slots, RunOk, Scan}
 use Rattle.pools.proofs.Ask.{differ}
@@ -28,19 +28,19 @@ pub at-run : (y : ℕ) (r : Run) (rs : List Run) → In r rs → In y (frames r)
 at-run y r (q ∷ rs) (inl p) m = in_left y (frames q) (slots rs) (subst (λ (v : Run). In y (frames v)) p m)
 at-run y r (q ∷ rs) (inr k) m = in_right y (frames q) (slots rs) (at-run y r rs k m)
 
-pub of-class : (c : ℕ) (rs : List Run) → In c (classes rs) → (r : Run) × In r rs × (r.class ≡ c)
-of-class c (r ∷ rs) (inl q) = (r, inl refl, sym q)
-of-class c (r ∷ rs) (inr m) = let t = of-class c rs m in (t.0, inr t.1, t.2)
+pub of_class : (c : ℕ) (rs : List Run) → In c (classes rs) → (r : Run) × In r rs × (r.class ≡ c)
+of_class c (r ∷ rs) (inl q) = (r, inl refl, sym q)
+of_class c (r ∷ rs) (inr m) = let t = of_class c rs m in (t.0, inr t.1, t.2)
 
-pub class-of : (r : Run) (rs : List Run) → In r rs → In r.class (classes rs)
-class-of r (q ∷ rs) (inl p) = inl (ap (λ (v : Run). v.class) p)
-class-of r (q ∷ rs) (inr m) = inr (class-of r rs m)
+pub class_of_lem : (r : Run) (rs : List Run) → In r rs → In r.class (classes rs)
+class_of_lem r (q ∷ rs) (inl p) = inl (ap (λ (v : Run). v.class) p)
+class_of_lem r (q ∷ rs) (inr m) = inr (class_of_lem r rs m)
 
 -- a class has one run
 pub same-run : (r q : Run) (rs : List Run) → NoDup (classes rs) → In r rs → In q rs → r.class ≡ q.class → r ≡ q
 same-run r q (t ∷ rs) u (inl a) (inl b) e = a ∙ sym b
-same-run r q (t ∷ rs) u (inl a) (inr b) e = absurd (all-at (λ y. t.class ≢ y) q.class (classes rs) u.0 (class-of q rs b) (ap (λ (v : Run). v.class) (sym a) ∙ e))
-same-run r q (t ∷ rs) u (inr a) (inl b) e = absurd (all-at (λ y. t.class ≢ y) r.class (classes rs) u.0 (class-of r rs a) (ap (λ (v : Run). v.class) (sym b) ∙ sym e))
+same-run r q (t ∷ rs) u (inl a) (inr b) e = absurd (all-at (λ y. t.class ≢ y) q.class (classes rs) u.0 (class_of_lem q rs b) (ap (λ (v : Run). v.class) (sym a) ∙ e))
+same-run r q (t ∷ rs) u (inr a) (inl b) e = absurd (all-at (λ y. t.class ≢ y) r.class (classes rs) u.0 (class_of_lem r rs a) (ap (λ (v : Run). v.class) (sym b) ∙ sym e))
 same-run r q (t ∷ rs) u (inr a) (inr b) e = same-run r q rs u.1 a b e
 
 out_of : (c : ℕ) (xs : List ℕ) → (In c xs → ⊥) → Out c xs
@@ -58,7 +58,7 @@ ran st c x k l q r =
     let w = went st.elems st.head.elems.extent c x k (total_of st.shared c) x r in
     record {
       run = record { class = c; start = x; rest = w.rest };
-      ok = record { header = l; sized = w.sized ∙ q; round = w.walk; once = went-once st.elems st.head.elems.extent c x k (total_of st.shared c) w; bytes = w.bytes; fits = w.fits };
+      ok = record { header = l; sized = w.sized ∙ q; round = w.walk; once = went_once st.elems st.head.elems.extent c x k (total_of st.shared c) w; bytes = w.bytes; fits = w.fits };
       class = refl;
       start = refl;
     }
@@ -68,7 +68,7 @@ module _ (st : State) where
   slot-class y rs g k =
       let t = run_at y rs k in
       let ok = all-at (RunOk st) t.0 rs g t.1 in
-      subst (λ (v : ℕ). In v (classes rs)) (sym (all-at (Fit st.elems st.head.elems.extent t.0.class) y (frames t.0) ok.fits t.2).mine) (class-of t.0 rs t.1)
+      subst (λ (v : ℕ). In v (classes rs)) (sym (all-at (Fit st.elems st.head.elems.extent t.0.class) y (frames t.0) ok.fits t.2).mine) (class_of_lem t.0 rs t.1)
 
   slots-once : (rs : List Run) → All (RunOk st) rs → NoDup (classes rs) → NoDup (slots rs)
   slots-once [] g u = tt
@@ -78,8 +78,8 @@ module _ (st : State) where
       all-at (λ v. r.class ≢ v) (class_of st.elems y) (classes rs) u.0 (slot-class y rs g.1 l)
       (sym (all-at (Fit st.elems st.head.elems.extent r.class) x (frames r) g.0.fits k).mine ∙ ap (class_of st.elems) q))))
 
-  slots-live : (rs : List Run) → All (RunOk st) rs → All (λ x. (generationOf st.elems x ≢ 0) × (0 < x) × (x ≤ st.head.elems.extent)) (slots rs)
-  slots-live rs g = all_of (λ x. (generationOf st.elems x ≢ 0) × (0 < x) × (x ≤ st.head.elems.extent)) (slots rs) (λ x k.
+  slots-live : (rs : List Run) → All (RunOk st) rs → All (λ x. (generation_of st.elems x ≢ 0) × (0 < x) × (x ≤ st.head.elems.extent)) (slots rs)
+  slots-live rs g = all_of (λ x. (generation_of st.elems x ≢ 0) × (0 < x) × (x ≤ st.head.elems.extent)) (slots rs) (λ x k.
       let t = run_at x rs k in
       let f = all-at (Fit st.elems st.head.elems.extent t.0.class) x (frames t.0) (all-at (RunOk st) t.0 rs g t.1).fits t.2 in
       (f.live, f.inside.low, f.inside.high))
@@ -102,19 +102,19 @@ module _ (st : State) where
     pub once-met : NoDup (slots z.runs)
     once-met = slots-once z.runs z.good z.fresh
 
-    pub live-met : All (λ x. (generationOf st.elems x ≢ 0) × (0 < x) × (x ≤ st.head.elems.extent)) (slots z.runs)
+    pub live-met : All (λ x. (generation_of st.elems x ≢ 0) × (0 < x) × (x ≤ st.head.elems.extent)) (slots z.runs)
     live-met = slots-live z.runs z.good
 
     pub live-classes : All (λ d. (count_of st.shared d ≢ 0) × (0 < d) × (d ≤ st.head.shared.extent)) (classes z.runs)
     live-classes = all_of (λ d. (count_of st.shared d ≢ 0) × (0 < d) × (d ≤ st.head.shared.extent)) (classes z.runs) (λ d k.
-        let t = of-class d z.runs k in
+        let t = of_class d z.runs k in
         let ok = all-at (RunOk st) t.0 z.runs z.good t.1 in
         subst (λ (d : ℕ). (count_of st.shared d ≢ 0) × (0 < d) × (d ≤ st.head.shared.extent)) t.2 (omega (arith, ok.sized), ok.header.low, ok.header.high))
 
     pub bounded : met ≤ st.head.elems.extent
-    bounded = omega (arith, fewer (slots z.runs) (generationOf st.elems) st.head.elems.extent once-met live-met, lives-le (generationOf st.elems) st.head.elems.extent, z.total)
+    bounded = omega (arith, fewer (slots z.runs) (generation_of st.elems) st.head.elems.extent once-met live-met, lives_le (generation_of st.elems) st.head.elems.extent, z.total)
 
-    pub skip-free : generationOf st.elems (i + 1) ≡ 0 → FreeOk st.elems (i + 1) → Scan st (i + 1) met rings seen
+    pub skip-free : generation_of st.elems (i + 1) ≡ 0 → FreeOk st.elems (i + 1) → Scan st (i + 1) met rings seen
     skip-free h f = record {
       runs = z.runs;
       good = z.good;
@@ -128,20 +128,20 @@ module _ (st : State) where
       few = omega (arith, z.few);
     }
       where
-        passed : (x : ℕ) → 0 < x → x ≤ i + 1 → generationOf st.elems x ≢ 0 → Dec (x ≡ i + 1) → In (class_of st.elems x) (classes z.runs)
-        passed x lo hi l (yes q) = absurd (l (ap (generationOf st.elems) q ∙ h))
+        passed : (x : ℕ) → 0 < x → x ≤ i + 1 → generation_of st.elems x ≢ 0 → Dec (x ≡ i + 1) → In (class_of st.elems x) (classes z.runs)
+        passed x lo hi l (yes q) = absurd (l (ap (generation_of st.elems) q ∙ h))
         passed x lo hi l (no q) = z.passed x lo (omega arith) l
 
-        free : (x : ℕ) → 0 < x → x ≤ i + 1 → generationOf st.elems x ≡ 0 → Dec (x ≡ i + 1) → FreeOk st.elems x
+        free : (x : ℕ) → 0 < x → x ≤ i + 1 → generation_of st.elems x ≡ 0 → Dec (x ≡ i + 1) → FreeOk st.elems x
         free x lo hi l (yes q) = subst (FreeOk st.elems) (sym q) f
         free x lo hi l (no q) = z.free x lo (omega arith) l
 
-    module _ (c : ℕ) (h : generationOf st.elems (i + 1) ≢ 0) (mine : class_of st.elems (i + 1) ≡ c) (pos : 0 < c) where
+    module _ (c : ℕ) (h : generation_of st.elems (i + 1) ≢ 0) (mine : class_of st.elems (i + 1) ≡ c) (pos : 0 < c) where
       up : suc (c - 1) ≡ c
       up = omega arith
 
-      free-next : (x : ℕ) → 0 < x → x ≤ i + 1 → generationOf st.elems x ≡ 0 → Dec (x ≡ i + 1) → FreeOk st.elems x
-      free-next x lo hi l (yes q) = absurd (h (sym (ap (generationOf st.elems) q) ∙ l))
+      free-next : (x : ℕ) → 0 < x → x ≤ i + 1 → generation_of st.elems x ≡ 0 → Dec (x ≡ i + 1) → FreeOk st.elems x
+      free-next x lo hi l (yes q) = absurd (h (sym (ap (generation_of st.elems) q) ∙ l))
       free-next x lo hi l (no q) = z.free x lo (omega arith) l
 
       pub skip-seen : marked seen (c - 1) ≡ true → Scan st (i + 1) met rings seen
@@ -161,7 +161,7 @@ module _ (st : State) where
           here : In c (classes z.runs)
           here = subst (λ (v : ℕ). In v (classes z.runs)) up (z.marks (c - 1) k)
 
-          passed : (x : ℕ) → 0 < x → x ≤ i + 1 → generationOf st.elems x ≢ 0 → Dec (x ≡ i + 1) → In (class_of st.elems x) (classes z.runs)
+          passed : (x : ℕ) → 0 < x → x ≤ i + 1 → generation_of st.elems x ≢ 0 → Dec (x ≡ i + 1) → In (class_of st.elems x) (classes z.runs)
           passed x lo hi l (yes q) = subst (λ (v : ℕ). In v (classes z.runs)) (sym (ap (class_of st.elems) q ∙ mine)) here
           passed x lo hi l (no q) = z.passed x lo (omega arith) l
 
@@ -194,7 +194,7 @@ module _ (st : State) where
           on d (inl p) (no q) = absurd (q (omega arith))
           on d (inr p) (no q) = add.others d q ∙ z.noted d p
 
-          passed : (t : Ran st c (i + 1)) → (x : ℕ) → 0 < x → x ≤ i + 1 → generationOf st.elems x ≢ 0 → Dec (x ≡ i + 1) → In (class_of st.elems x) (classes (t.run ∷ z.runs))
+          passed : (t : Ran st c (i + 1)) → (x : ℕ) → 0 < x → x ≤ i + 1 → generation_of st.elems x ≢ 0 → Dec (x ≡ i + 1) → In (class_of st.elems x) (classes (t.run ∷ z.runs))
           passed t x lo hi l (yes q) = inl (ap (class_of st.elems) q ∙ mine ∙ sym t.class)
           passed t x lo hi l (no q) = inr (z.passed x lo (omega arith) l)
 

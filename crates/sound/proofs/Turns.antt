@@ -8,34 +8,34 @@ use native.Mathlib.Nat.{mul-le-mul_right}
 use native.Mathlib.Omega.{arith}
 use lib.ListN.{length}
 use Rattle.marks.specs.Marks.{marked, Added}
-use Rattle.rules.specs.Tables.{mostSlots, generationOf, class_of, count_of, total_of, State}
+use Rattle.rules.specs.Tables.{most_slots, generation_of, class_of, count_of, total_of, State}
 use Rattle.rules.specs.Sound.{Sound}
 use Rattle.rules.specs.Refusals.{shaped}
-use Rattle.rules.proofs.laws.Working.{view, Working}
-use Rattle.rules.proofs.laws.Rounds.{Within, Round, round-of}
-use Rattle.rules.proofs.laws.Soundness.{shaped_of, working-of-sound}
+use Rattle.rules.proofs.Laws.Working.{view, Working}
+use Rattle.rules.proofs.Laws.Rounds.{Within, Round, round_of}
+use Rattle.rules.proofs.Laws.Soundness.{shaped_of, working_of_sound}
 use Rattle.sound.specs.declared.Turn.{Turn}
 use Rattle.sound.specs.declared.Turn.TheVariants.{Free, Seen, First, Wrong}
 use Rattle.turns.specs.Turns.{FreeOk}
 use Rattle.sound.specs.Scans.{Fitting, FrameAt, FirstAt, Turned, Scan, Scanned}
 use Rattle.sound.proofs.Scans.{skip-free, skip-seen, take-ring, numbered}
-use Rattle.sound.proofs.Whole.{must-free, must-class, must-met, must-rings}
+use Rattle.sound.proofs.Whole.{must_free, must_class, must_met, must_rings}
 
 pub work : (st : State) → shaped st ≡ true → Sound st → Working (view st)
-work st h S = working-of-sound st (shaped_of st h) S
+work st h S = working_of_sound st (shaped_of st h) S
 
 -- ---- what was read at a slot
 
 module _ (st : State) (h : shaped st ≡ true) (x : ℕ) where
-  pub wrong-free : generationOf st.elems x ≡ 0 → (FreeOk st.elems x → ⊥) → Sound st → ⊥
-  wrong-free z n S = n (must-free st (work st h S) x z)
+  pub wrong_free : generation_of st.elems x ≡ 0 → (FreeOk st.elems x → ⊥) → Sound st → ⊥
+  wrong_free z n S = n (must_free st (work st h S) x z)
 
-  module _ (c : ℕ) (live : generationOf st.elems x ≢ 0) (mine : c ≡ class_of st.elems x) where
-    pub wrong-class : (Within st.head.shared.extent c → ⊥) → Sound st → ⊥
-    wrong-class n S = n (rw mine (must-class st (work st h S) x live))
+  module _ (c : ℕ) (live : generation_of st.elems x ≢ 0) (mine : c ≡ class_of st.elems x) where
+    pub wrong_class : (Within st.head.shared.extent c → ⊥) → Sound st → ⊥
+    wrong_class n S = n (rw mine (must_class st (work st h S) x live))
 
-    pub wrong-ring : (k t : ℕ) → k ≡ count_of st.shared c → t ≡ total_of st.shared c → (Round st.elems st.head.elems.extent c x k t x → ⊥) → Sound st → ⊥
-    wrong-ring k t e f n S = n (rw (e, f) (round-of st (work st h S) c x (record { live = live; mine = sym mine })))
+    pub wrong_ring : (k t : ℕ) → k ≡ count_of st.shared c → t ≡ total_of st.shared c → (Round st.elems st.head.elems.extent c x k t x → ⊥) → Sound st → ⊥
+    wrong_ring k t e f n S = n (rw (e, f) (round_of st (work st h S) c x (record { live = live; mine = sym mine })))
 
     pub frame_at : Within st.head.shared.extent c → FrameAt st x
     frame_at w = record { live = live; class = rw (← mine) w }
@@ -46,23 +46,23 @@ module _ (st : State) (h : shaped st ≡ true) (x : ℕ) where
 -- ---- what the scan has then
 
 module _ (st : State) (i met rings : ℕ) (seen after : List ℕ) (r : Turn) (z : Scan st i met rings seen) (t : Turned st seen (i + 1) r after) where
-  pub turn-free : r ≡ Free → Scan st (i + 1) met rings after
-  turn-free e =
+  pub turn_free : r ≡ Free → Scan st (i + 1) met rings after
+  turn_free e =
       let f : Turned st seen (i + 1) Free after = subst (λ (r : Turn). Turned st seen (i + 1) r after) e t in
       subst (Scan st (i + 1) met rings) (sym f.2) (skip-free st i met rings seen z f.0 f.1)
 
-  pub turn-seen : r ≡ Seen → Scan st (i + 1) met rings after
-  turn-seen e =
+  pub turn_seen : r ≡ Seen → Scan st (i + 1) met rings after
+  turn_seen e =
       let f : Turned st seen (i + 1) Seen after = subst (λ (r : Turn). Turned st seen (i + 1) r after) e t in
       subst (Scan st (i + 1) met rings) (sym f.2) (skip-seen st i met rings seen z (class_of st.elems (i + 1)) f.0.live refl f.0.class.low f.1)
 
-  pub turn-first : (k : ℕ) → r ≡ First k → Scan st (i + 1) (met + k) (rings + 1) after
-  turn-first k e =
+  pub turn_first : (k : ℕ) → r ≡ First k → Scan st (i + 1) (met + k) (rings + 1) after
+  turn_first k e =
       let f : FirstAt st seen (i + 1) k after = subst (λ (r : Turn). Turned st seen (i + 1) r after) e t in
       take-ring st i met rings seen z (class_of st.elems (i + 1)) f.frame.live refl f.frame.class.low k after f.frame.class.high f.unseen f.count f.round f.added
 
-  pub turn-wrong : r ≡ Wrong → Sound st → ⊥
-  turn-wrong e = subst (λ (r : Turn). Turned st seen (i + 1) r after) e t
+  pub turn_wrong : r ≡ Wrong → Sound st → ⊥
+  turn_wrong e = subst (λ (r : Turn). Turned st seen (i + 1) r after) e t
 
 -- ---- the scan is through
 
@@ -71,11 +71,11 @@ module _ (st : State) (i met rings : ℕ) (seen : List ℕ) (z : Scan st i met r
   all-passed = subst (λ (k : ℕ). Scan st k met rings seen) end z
 
   module _ (h : shaped st ≡ true) where
-    pub wrong-met : met ≢ st.head.elems.live → Sound st → ⊥
-    wrong-met n S = n (must-met st (work st h S) met rings seen all-passed)
+    pub wrong_met : met ≢ st.head.elems.live → Sound st → ⊥
+    wrong_met n S = n (must_met st (work st h S) met rings seen all-passed)
 
-    pub wrong-rings : rings ≢ st.head.shared.live → Sound st → ⊥
-    wrong-rings n S = n (must-rings st (work st h S) met rings seen all-passed)
+    pub wrong_rings : rings ≢ st.head.shared.live → Sound st → ⊥
+    wrong_rings n S = n (must_rings st (work st h S) met rings seen all-passed)
 
   pub scanned : met ≡ st.head.elems.live → rings ≡ st.head.shared.live → Scanned st
   scanned a b = record { seen = seen; scan = numbered a b all-passed }

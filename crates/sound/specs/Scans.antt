@@ -2,11 +2,11 @@
 use Rattle.std.specs.Prelude.{◌≡◌, ◌≢◌, true, false, List, [], ◌∷◌, ◌++◌, map, ℕ, suc, ◌*◌, ◌-◌, ◌≤◌, ◌<◌, length}
 use Rattle.marks.specs.Marks.{marked, Added}
 use Rattle.rules.specs.Notation.{sum}
-use Rattle.rules.specs.Tables.{mostSlots, frameWidth, headerWidth, generationOf, class_of, next_of, bytes_of, count_of, total_of, State}
+use Rattle.rules.specs.Tables.{most_slots, frame_width, header_width, generation_of, class_of, next_of, bytes_of, count_of, total_of, State}
 use Rattle.rules.specs.Sound.{Sound}
 use Rattle.rules.specs.Refusals.{shaped}
-use Rattle.rules.proofs.laws.Lists.{All, In, NoDup, Walk}
-use Rattle.rules.proofs.laws.Rounds.{Within, Fit, Round}
+use Rattle.rules.proofs.Laws.Lists.{All, In, NoDup, Walk}
+use Rattle.rules.proofs.Laws.Rounds.{Within, Fit, Round}
 use Rattle.turns.specs.Turns.{FreeOk}
 use Rattle.sound.specs.declared.Turn.{Turn}
 use Rattle.sound.specs.declared.Turn.TheVariants.{Free, Seen, First, Wrong}
@@ -14,13 +14,13 @@ use Rattle.sound.specs.declared.Turn.TheVariants.{Free, Seen, First, Wrong}
 -- what the scan rests on: shape, and extents within capacity
 pub record Fitting (st : State) : Type 0 where
   pub shape : shaped st ≡ true
-  pub elems : st.head.elems.extent * frameWidth ≤ length st.elems
-  pub shared : st.head.shared.extent * headerWidth ≤ length st.shared
-  pub few : st.head.elems.extent ≤ mostSlots
+  pub elems : st.head.elems.extent * frame_width ≤ length st.elems
+  pub shared : st.head.shared.extent * header_width ≤ length st.shared
+  pub few : st.head.elems.extent ≤ most_slots
 
 -- a frame, and its class slot
 pub record FrameAt (st : State) (x : ℕ) : Type 0 where
-  pub live : generationOf st.elems x ≢ 0
+  pub live : generation_of st.elems x ≢ 0
   pub class : Within st.head.shared.extent (class_of st.elems x)
 
 -- the first frame of its class that is met, and the ring round from it
@@ -33,7 +33,7 @@ pub record FirstAt (st : State) (seen : List ℕ) (x k : ℕ) (after : List ℕ)
 
 -- what one turn of the scan finds at a slot, and the marks then
 abbrev pub Turned : State → (seen : List ℕ) → (slot : ℕ) → Turn → (after : List ℕ) → Type 0
-Turned st seen x Free after = (generationOf st.elems x ≡ 0) × FreeOk st.elems x × (after ≡ seen)
+Turned st seen x Free after = (generation_of st.elems x ≡ 0) × FreeOk st.elems x × (after ≡ seen)
 Turned st seen x Seen after = FrameAt st x × (marked seen (class_of st.elems x - 1) ≡ true) × (after ≡ seen)
 Turned st seen x (First k) after = FirstAt st seen x k after
 Turned st seen x Wrong after = Sound st → ⊥
@@ -70,8 +70,8 @@ pub record Scan (st : State) (i met rings : ℕ) (seen : List ℕ) : Type 0 wher
   pub fresh : NoDup (classes runs)
   pub marks : (c : ℕ) → marked seen c ≡ true → In (suc c) (classes runs)
   pub noted : (c : ℕ) → In (suc c) (classes runs) → marked seen c ≡ true
-  pub passed : (x : ℕ) → 0 < x → x ≤ i → generationOf st.elems x ≢ 0 → In (class_of st.elems x) (classes runs)
-  pub free : (x : ℕ) → 0 < x → x ≤ i → generationOf st.elems x ≡ 0 → FreeOk st.elems x
+  pub passed : (x : ℕ) → 0 < x → x ≤ i → generation_of st.elems x ≢ 0 → In (class_of st.elems x) (classes runs)
+  pub free : (x : ℕ) → 0 < x → x ≤ i → generation_of st.elems x ≡ 0 → FreeOk st.elems x
   pub total : length (slots runs) ≡ met
   pub count : length (classes runs) ≡ rings
   pub few : rings ≤ i

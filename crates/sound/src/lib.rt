@@ -5,7 +5,7 @@ ghost use Rattle.rules.specs.Tables.{state_of};
 ghost use Rattle.rules.specs.Sound as sound;
 ghost use Rattle.rules.specs.Refusals as refusals;
 ghost use Rattle.rules.specs.Calls.{Is};
-ghost use Rattle.rules.proofs.laws.Rounds.{Within};
+ghost use Rattle.rules.proofs.Laws.Rounds.{Within};
 ghost use Rattle.pools.specs.Pools.{Verdict};
 ghost use Rattle.sound.specs.Scans.{Fitting, Turned, Scanned, Blank};
 

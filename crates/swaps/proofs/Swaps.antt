@@ -4,7 +4,7 @@ use mathlib.Core.Logic.{◌≢◌, ◌⊎◌, inl, inr}
 use Prim.Native.Nat.{ℕ, zero, suc, ◌+◌, ◌-◌, ◌≤◌, ◌<◌}
 use native.Mathlib.Omega.{arith}
 use native.Mathlib.Decide.{ℕ_discrete, dec_lt}
-use Rattle.rules.proofs.laws.Columns.{choose}
+use Rattle.rules.proofs.Laws.Columns.{choose}
 use Rattle.swaps.specs.Swaps.{Trail, here, on}
 
 pub trail-end : {f : ℕ → ℕ} {i a r : ℕ} → Trail f i a r → i ≤ r
@@ -12,11 +12,11 @@ trail-end (here h) = h
 trail-end (on p l u t) = trail-end t
 
 -- the walk has one end
-pub trail-one : {f : ℕ → ℕ} {i a r r' : ℕ} → Trail f i a r → Trail f i a r' → r ≡ r'
-trail-one (here h) (here k) = refl
-trail-one (here h) (on p l u t) = absurd (omega arith)
-trail-one (on p l u t) (here h) = absurd (omega arith)
-trail-one (on p l u t) (on p' l' u' t') = trail-one t t'
+pub trail_one : {f : ℕ → ℕ} {i a r r' : ℕ} → Trail f i a r → Trail f i a r' → r ≡ r'
+trail_one (here h) (here k) = refl
+trail_one (here h) (on p l u t) = absurd (omega arith)
+trail_one (on p l u t) (here h) = absurd (omega arith)
+trail_one (on p l u t) (on p' l' u' t') = trail_one t t'
 
 -- what the next step of the recursion rests on
 pub trail-next : {f : ℕ → ℕ} {i a r : ℕ} → Trail f i a r → a < i → (a < f a) × Trail f i (f a) r
@@ -33,11 +33,11 @@ trail-stays {i = i} {a = a} e n (here h) = here {a = a} (omega arith)
 trail-stays {f} {f'} {i} {a} {r} e n (on p l u t) = on {a = a} {r = r} p (omega arith) (rw (e a l) u) (rw (e a l) (trail-stays e n t))
 
 -- and a walk that ended at `i` goes on to `j`
-pub trail-goes : {f f' : ℕ → ℕ} {i a r j : ℕ} → ((b : ℕ) → b < i → f' b ≡ f b) → f' i ≡ j → 0 < i → i < j → r ≡ i → Trail f i a r → Trail f' (suc i) a j
-trail-goes {f} {f'} {i} {a} {r} {j} e k z l q (here h) =
+pub trail_goes : {f f' : ℕ → ℕ} {i a r j : ℕ} → ((b : ℕ) → b < i → f' b ≡ f b) → f' i ≡ j → 0 < i → i < j → r ≡ i → Trail f i a r → Trail f' (suc i) a j
+trail_goes {f} {f'} {i} {a} {r} {j} e k z l q (here h) =
     let m : f' a ≡ j = ap f' q ∙ k in
     on {a = a} {r = j} (omega arith) (omega arith) (rw m (omega arith)) (rw m (here {a = j} (omega arith)))
-trail-goes {f} {f'} {i} {a} {r} {j} e k z l q (on p d u t) = on {a = a} {r = j} p (omega arith) (rw (e a d) u) (rw (e a d) (trail-goes e k z l q t))
+trail_goes {f} {f'} {i} {a} {r} {j} e k z l q (on p d u t) = on {a = a} {r = j} p (omega arith) (rw (e a d) u) (rw (e a d) (trail_goes e k z l q t))
 
 -- the slots `i` and `j` are exchanged, and entry `i` names `j`; with `j` at `i` nothing need change
 pub record Swapped {A : Type 0} (f f' : ℕ → ℕ) (h h' : ℕ → A) (i j : ℕ) : Type 0 where
@@ -84,16 +84,16 @@ module _ {A : Type 0} {m extent : ℕ} {k : ℕ → A} {f f' : ℕ → ℕ} {h h
       go (yes e) = displaced e (omega (arith, high, other s a b)) refl
       go (no e) = stayed e (other s a b) refl
 
-  final-next : (s : ℕ) → 0 < s → s < suc i → h' s ≡ k s
-  final-next s a b = go (ℕ_discrete s i)
+  final_next : (s : ℕ) → 0 < s → s < suc i → h' s ≡ k s
+  final_next s a b = go (ℕ_discrete s i)
     where
       go : Dec (s ≡ i) → h' s ≡ k s
       go (yes e) = rw (e, W.at_i, J) (S.holds i (omega arith) l)
       go (no e) = W.off s e (omega (arith, high)) ∙ S.final s a (omega arith)
 
-  pub sorting-next : Sorting m extent k f' h' (suc i)
-  sorting-next = record {
-    final = final-next;
+  pub sorting_next : Sorting m extent k f' h' (suc i)
+  sorting_next = record {
+    final = final_next;
     spot = moved;
     trail = λ s a b. rw (W.high s a) (trail' s a b (way s a b));
     inside = λ s a b. inside' s a b (way s a b);
@@ -102,7 +102,7 @@ module _ {A : Type 0} {m extent : ℕ} {k : ℕ → A} {f f' : ℕ → ℕ} {h h
   }
     where
       trail' : (s : ℕ) → suc i ≤ s → s ≤ m → Way s (S.spot s) (moved s) → Trail f' (suc i) (f s) (moved s)
-      trail' s a b (displaced e d q) = rw q (trail-goes W.low (W.named (omega arith)) z d e (S.trail s (omega arith) b))
+      trail' s a b (displaced e d q) = rw q (trail_goes W.low (W.named (omega arith)) z d e (S.trail s (omega arith) b))
       trail' s a b (stayed e d q) = rw q (trail-stays W.low e (S.trail s (omega arith) b))
 
       inside' : (s : ℕ) → suc i ≤ s → s ≤ m → Way s (S.spot s) (moved s) → moved s ≤ extent

@@ -1,6 +1,6 @@
 // Headers swapped into the order of their runs, as in the Rust: class entry k says where run k's header is, and where a swap took the one that stood at k.
 // Ported from compress_canonical of surject_arena.rs, its swaps of headers (triple_arena 0.15.1, NOTICE).
-ghost use Rattle.rules.specs.Tables.{frameWidth, headerWidth, class_of};
+ghost use Rattle.rules.specs.Tables.{frame_width, header_width, class_of};
 ghost use Rattle.slots.specs.Asked.{Within};
 ghost use Rattle.swaps.specs.Swaps.{Trail, Followable, Exchanged, Brought, Permuting, Permuted};
 
@@ -46,7 +46,7 @@ fn exchange_rows(t: &mut [u64], width: u64, i: u64, j: u64)
 
 // The header at `j` comes to slot `i`, and class entry `i` says where the one that stood there went.
 fn bring(elems: &mut [u64], shared: &mut [u64], i: u64, j: u64)
-    requires { Within headerWidth shared.old i × Within headerWidth shared.old j × Within frameWidth elems.old i }
+    requires { Within header_width shared.old i × Within header_width shared.old j × Within frame_width elems.old i }
     ensures { Brought elems.old shared.old elems.new shared.new i j }
 {
     if j == i {

@@ -2,9 +2,9 @@
 // Ported from drain_combined of surject_iterators.rs (triple_arena 0.15.1, NOTICE).
 ghost use Rattle.std.specs.Prelude.{◌≡◌, ◌*◌, ◌≤◌, length};
 ghost use Rattle.rules.specs.Tables.{state_of, size_at};
-ghost use Rattle.rules.specs.Drains.{recordWidth};
-ghost use Rattle.rules.specs.Calls.{Ready, step, drainAll};
-ghost use Rattle.rules.specs.Answers.{afterNumber};
+ghost use Rattle.rules.specs.Drains.{record_width};
+ghost use Rattle.rules.specs.Calls.{Ready, step, drain_all};
+ghost use Rattle.rules.specs.Answers.{after_number};
 ghost use Rattle.sweeps.specs.Sweep.{Visits, Emptied};
 ghost use Rattle.drains.specs.Answered.{Drained};
 
@@ -35,7 +35,7 @@ fn drain_slot(
 
 // Each slot is met once, in ascending order: what lies below it is free by then.
 fn drain_slots(head: Head, elems: &mut [u64], shared: &mut [u64], out: &mut [u64]) -> Head
-    requires { Ready (state_of head elems.old shared.old) × (head.elems.live * recordWidth ≤ length out.old) }
+    requires { Ready (state_of head elems.old shared.old) × (head.elems.live * record_width ≤ length out.old) }
     ensures { Emptied (state_of head elems.old shared.old) out.old result elems.new shared.new out.new }
 {
     let frames = head.elems.live;
@@ -52,7 +52,7 @@ fn drain_slots(head: Head, elems: &mut [u64], shared: &mut [u64], out: &mut [u64
 // All runs go, each from its lowest slot; the overflow of the closing clear is not reported.
 pub fn drain_all(head: Head, elems: &mut [u64], shared: &mut [u64], out: &mut [u64]) -> HeadNumber
     requires { Ready (state_of head elems.old shared.old) }
-    ensures { afterNumber result elems.new shared.new out.new ≡ step (state_of head elems.old shared.old) out.old drainAll }
+    ensures { after_number result elems.new shared.new out.new ≡ step (state_of head elems.old shared.old) out.old drain_all }
 {
     let frames = head.elems.live;
     if (out.len() as u64) < frames * RECORD_WIDTH {

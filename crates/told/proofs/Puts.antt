@@ -12,14 +12,14 @@ use Rattle.rules.specs.Script.{space, bytes, decimal}
 use Rattle.told.specs.Put.{Put}
 use Rattle.told.specs.Texts.{spaced}
 
-sets-append : (l : List ℕ) (i : ℕ) (xs ys : List ℕ) → sets (sets l i xs) (i + length xs) ys ≡ sets l i (xs ++ ys)
-sets-append l i [] ys = rw add-zero
-sets-append l i (x ∷ xs) ys = rw (add-suc, ← (suc-add i (length xs))) (sets-append (set l i x) (suc i) xs ys)
+sets_append : (l : List ℕ) (i : ℕ) (xs ys : List ℕ) → sets (sets l i xs) (i + length xs) ys ≡ sets l i (xs ++ ys)
+sets_append l i [] ys = rw add-zero
+sets_append l i (x ∷ xs) ys = rw (add-suc, ← (suc-add i (length xs))) (sets_append (set l i x) (suc i) xs ys)
 
 pub put_then : {a b d : List ℕ} {at m n : ℕ} {xs ys : List ℕ} → Put a at xs b m → Put b m ys d n → Put a at (xs ++ ys) d n
 put_then {a} {b} {d} {at} {m} {n} {xs} {ys} p q =
     record {
-      written = q.written ∙ rw (p.written, p.past) (sets-append a at xs ys);
+      written = q.written ∙ rw (p.written, p.past) (sets_append a at xs ys);
       past = simp length-append (omega (arith, p.past, q.past));
     }
 
@@ -50,24 +50,24 @@ pub put_same : {a b : List ℕ} {at n : ℕ} {xs ys : List ℕ} → xs ≡ ys �
 put_same e p = rw e at p
 
 -- a key after what was written
-pub put-key-then : {a b d : List ℕ} {at m n : ℕ} {xs : List ℕ} (k : Key) → Put a at xs b m → Put b m (decimal k.slot ++ bytes " " ++ decimal k.generation) d n
+pub put_key_then : {a b d : List ℕ} {at m n : ℕ} {xs : List ℕ} (k : Key) → Put a at xs b m → Put b m (decimal k.slot ++ bytes " " ++ decimal k.generation) d n
     → Put a at (xs ++ decimal k.slot ++ bytes " " ++ decimal k.generation) d n
-put-key-then {xs = xs} k p q = put_same (regroup xs (decimal k.slot) (bytes " ") (decimal k.generation)) (put_then p q)
+put_key_then {xs = xs} k p q = put_same (regroup xs (decimal k.slot) (bytes " ") (decimal k.generation)) (put_then p q)
   where
     regroup : (a b d e : List ℕ) → a ++ (b ++ d ++ e) ≡ a ++ b ++ d ++ e
     regroup a b d e = simp append_assoc
 
 -- ---- numbers, each after a space
 
-spaced-append : (xs ys : List ℕ) → spaced (xs ++ ys) ≡ spaced xs ++ spaced ys
-spaced-append [] ys = refl
-spaced-append (x ∷ xs) ys =
-    ap (λ (r : List ℕ). space ∷ decimal x ++ r) (spaced-append xs ys) ∙ ap (λ (r : List ℕ). space ∷ r) (sym (append_assoc (decimal x) (spaced xs) (spaced ys)))
+spaced_append : (xs ys : List ℕ) → spaced (xs ++ ys) ≡ spaced xs ++ spaced ys
+spaced_append [] ys = refl
+spaced_append (x ∷ xs) ys =
+    ap (λ (r : List ℕ). space ∷ decimal x ++ r) (spaced_append xs ys) ∙ ap (λ (r : List ℕ). space ∷ r) (sym (append_assoc (decimal x) (spaced xs) (spaced ys)))
 
-pub spaced-more : (xs : List ℕ) (i : ℕ) → i < length xs → spaced (take (i + 1) xs) ≡ spaced (take i xs) ++ space ∷ decimal (get_or xs i 0)
-spaced-more xs i h =
+pub spaced_more : (xs : List ℕ) (i : ℕ) → i < length xs → spaced (take (i + 1) xs) ≡ spaced (take i xs) ++ space ∷ decimal (get_or xs i 0)
+spaced_more xs i h =
     rw (add-one, take-suc xs i 0 h)
-    (spaced-append (take i xs) (get_or xs i 0 ∷ []) ∙ ap (λ (r : List ℕ). spaced (take i xs) ++ space ∷ r) (append-nil (decimal (get_or xs i 0))))
+    (spaced_append (take i xs) (get_or xs i 0 ∷ []) ∙ ap (λ (r : List ℕ). spaced (take i xs) ++ space ∷ r) (append-nil (decimal (get_or xs i 0))))
 
 -- the first `i` numbers are written, and the next one
 pub record Written (out₀ : List ℕ) (at : ℕ) (numbers out : List ℕ) (next i : ℕ) : Type 0 where
@@ -75,12 +75,12 @@ pub record Written (out₀ : List ℕ) (at : ℕ) (numbers out : List ℕ) (next
   pub room : next ≤ at + i * 21
   pub long : length out ≡ length out₀
 
-pub written-more : {out₀ out out₁ out₂ numbers : List ℕ} {at next mid end i : ℕ} → Written out₀ at numbers out next i → i < length numbers
+pub written_more : {out₀ out out₁ out₂ numbers : List ℕ} {at next mid end i : ℕ} → Written out₀ at numbers out next i → i < length numbers
     → Put out next (space ∷ []) out₁ mid → Put out₁ mid (decimal (get_or numbers i 0)) out₂ end → end ≤ mid + 20 → length out₂ ≡ length out₀
     → Written out₀ at numbers out₂ end (i + 1)
-written-more {numbers = numbers} {i = i} w h p q m l =
+written_more {numbers = numbers} {i = i} w h p q m l =
     record {
-      put = put_same (sym (spaced-more numbers i h)) (put_then w.put (put_then p q));
+      put = put_same (sym (spaced_more numbers i h)) (put_then w.put (put_then p q));
       room = omega (arith, w.room, p.past);
       long = l;
     }

@@ -11,24 +11,24 @@ use Rattle.rules.specs.declared.Cause.TheVariants.{NoSlot, FreeSlot, OtherGenera
 use Rattle.rules.specs.declared.Refusal.{Refusal}
 use Rattle.rules.specs.declared.Refusal.TheVariants.{Shape, Unsound, Dead, SameClass, NoElement, NoShared, Short, Malformed, NoFile, Nothing, Version, Sealed, OutOfRange}
 use Rattle.rules.specs.Refusals.{Outcome, number_of, values_of}
-use Rattle.rules.specs.Answers.{saidBeside}
-use Rattle.rules.specs.Script.{bytes, decimal, causeText, refusedText}
-use Rattle.told.specs.Texts.{causeOrNone, text_of}
+use Rattle.rules.specs.Answers.{said_beside}
+use Rattle.rules.specs.Script.{bytes, decimal, cause_text, refused_text}
+use Rattle.told.specs.Texts.{cause_or_none, text_of}
 
-pub text-refused : (print : Outcome → List ℕ) (r : Refusal) (over : Bool) (lent : List ℕ) → refusedText (number_of r) (values_of r []) ≡ text_of print (saidBeside r [] over) lent
-text-refused print Shape over lent = refl
-text-refused print Unsound over lent = refl
-text-refused print (Dead cause) over lent = refl
-text-refused print SameClass over lent = refl
-text-refused print NoElement over lent = refl
-text-refused print NoShared over lent = refl
-text-refused print Short over lent = refl
-text-refused print Malformed over lent = refl
-text-refused print NoFile over lent = refl
-text-refused print Nothing over lent = refl
-text-refused print Version over lent = refl
-text-refused print Sealed over lent = refl
-text-refused print OutOfRange over lent = refl
+pub text_refused : (print : Outcome → List ℕ) (r : Refusal) (over : Bool) (lent : List ℕ) → refused_text (number_of r) (values_of r []) ≡ text_of print (said_beside r [] over) lent
+text_refused print Shape over lent = refl
+text_refused print Unsound over lent = refl
+text_refused print (Dead cause) over lent = refl
+text_refused print SameClass over lent = refl
+text_refused print NoElement over lent = refl
+text_refused print NoShared over lent = refl
+text_refused print Short over lent = refl
+text_refused print Malformed over lent = refl
+text_refused print NoFile over lent = refl
+text_refused print Nothing over lent = refl
+text_refused print Version over lent = refl
+text_refused print Sealed over lent = refl
+text_refused print OutOfRange over lent = refl
 
 -- a refusal's number has at most two digits, its cause one
 pub two_digits : (r : Refusal) → length (decimal (number_of r)) ≤ 2
@@ -47,23 +47,23 @@ two_digits Version = lit≤ tt
 two_digits Sealed = lit≤ tt
 two_digits OutOfRange = lit≤ tt
 
-pub one-cause : (r : Refusal) → causeOrNone (get_or (values_of r []) 0 0) ≡ causeText (values_of r [])
-one-cause Shape = refl
-one-cause Unsound = refl
-one-cause (Dead NoSlot) = refl
-one-cause (Dead FreeSlot) = refl
-one-cause (Dead OtherGeneration) = refl
-one-cause SameClass = refl
-one-cause NoElement = refl
-one-cause NoShared = refl
-one-cause Short = refl
-one-cause Malformed = refl
-one-cause NoFile = refl
-one-cause Nothing = refl
-one-cause Version = refl
-one-cause Sealed = refl
-one-cause OutOfRange = refl
+pub one_cause : (r : Refusal) → cause_or_none (get_or (values_of r []) 0 0) ≡ cause_text (values_of r [])
+one_cause Shape = refl
+one_cause Unsound = refl
+one_cause (Dead NoSlot) = refl
+one_cause (Dead FreeSlot) = refl
+one_cause (Dead OtherGeneration) = refl
+one_cause SameClass = refl
+one_cause NoElement = refl
+one_cause NoShared = refl
+one_cause Short = refl
+one_cause Malformed = refl
+one_cause NoFile = refl
+one_cause Nothing = refl
+one_cause Version = refl
+one_cause Sealed = refl
+one_cause OutOfRange = refl
 
-pub cause-text : (n : ℕ) → (n ≡ 0 → ⊥) → n ≤ 3 → bytes " cause " ++ (48 + n) ∷ [] ≡ causeOrNone n
+pub cause_text_lem : (n : ℕ) → (n ≡ 0 → ⊥) → n ≤ 3 → bytes " cause " ++ (48 + n) ∷ [] ≡ cause_or_none n
 unfolding decimal
-cause-text n z h = simp (ne_eqb _ _ z, le-leb (suc n) 10 (omega arith))
+cause_text_lem n z h = simp (ne_eqb _ _ z, le-leb (suc n) 10 (omega arith))

@@ -1,10 +1,10 @@
 // Answers printed as Script says; each function answers the place after what it wrote.
 ghost use Rattle.std.specs.Prelude.{◌+◌, ◌*◌, ◌≤◌, ◌≡◌, false, [], ◌++◌, length, take};
 ghost use Rattle.rules.specs.Refusals.{number_of, values_of};
-ghost use Rattle.rules.specs.Answers.{saidNumber, saidInserted, saidJoined, saidRemoved};
-ghost use Rattle.rules.specs.Script.{bytes, decimal, keyText, unionText, ringText, removeText, refusedText};
+ghost use Rattle.rules.specs.Answers.{said_number, said_inserted, said_joined, said_removed};
+ghost use Rattle.rules.specs.Script.{bytes, decimal, key_text, union_text, ring_text, remove_text, refused_text};
 ghost use Rattle.told.specs.Put.{Put};
-ghost use Rattle.told.specs.Texts.{causeOrNone, spaced, text_of, restText, Places};
+ghost use Rattle.told.specs.Texts.{cause_or_none, spaced, text_of, rest_text, Places};
 ghost use Rattle.told.specs.Told.{Told};
 
 use crate::text::{put_decimal, put_text};
@@ -17,7 +17,7 @@ use rules::{
 // Ticket 5: ` cause C`, a digit, for a refusal that carries one.
 fn put_cause(out: &mut [u8], at: usize, cause: u64) -> usize
     requires { (at + 8 ≤ length out.old) × (cause ≤ 3) }
-    ensures put { Put out.old at (causeOrNone cause) out.new result }
+    ensures put { Put out.old at (cause_or_none cause) out.new result }
     ensures upper_bound { result ≤ at + 8 }
 {
     if cause == 0 {
@@ -30,7 +30,7 @@ fn put_cause(out: &mut [u8], at: usize, cause: u64) -> usize
 
 pub fn put_refusal(out: &mut [u8], at: usize, refusal: Refusal) -> usize
     requires { at + 28 ≤ length out.old }
-    ensures put { Put out.old at (refusedText (number_of refusal) (values_of refusal [])) out.new result }
+    ensures put { Put out.old at (refused_text (number_of refusal) (values_of refusal [])) out.new result }
     ensures upper_bound { result ≤ at + 28 }
 {
     let number = put_text(out, at, b"refused ");
@@ -50,7 +50,7 @@ fn put_key(out: &mut [u8], at: usize, key: Key) -> usize
 
 pub fn put_inserted(out: &mut [u8], at: usize, answer: Inserted) -> usize
     requires { at + 45 ≤ length out.old }
-    ensures put { Put out.old at (text_of keyText (saidInserted answer) []) out.new result }
+    ensures put { Put out.old at (text_of key_text (said_inserted answer) []) out.new result }
     ensures upper_bound { result ≤ at + 45 }
 {
     match answer {
@@ -64,7 +64,7 @@ pub fn put_inserted(out: &mut [u8], at: usize, answer: Inserted) -> usize
 
 pub fn put_joined(out: &mut [u8], at: usize, answer: Joined) -> usize
     requires { at + 98 ≤ length out.old }
-    ensures put { Put out.old at (text_of unionText (saidJoined answer) []) out.new result }
+    ensures put { Put out.old at (text_of union_text (said_joined answer) []) out.new result }
     ensures upper_bound { result ≤ at + 98 }
 {
     match answer {
@@ -83,7 +83,7 @@ pub fn put_joined(out: &mut [u8], at: usize, answer: Joined) -> usize
 // Script: removal adds ` shared S` for a last frame.
 fn put_rest(out: &mut [u8], at: usize, rest: Rest) -> usize
     requires { at + 28 ≤ length out.old }
-    ensures put { Put out.old at (restText rest) out.new result }
+    ensures put { Put out.old at (rest_text rest) out.new result }
     ensures upper_bound { result ≤ at + 28 }
 {
     match rest {
@@ -98,7 +98,7 @@ fn put_rest(out: &mut [u8], at: usize, rest: Rest) -> usize
 // Then ` over` on overflow.
 pub fn put_removed(out: &mut [u8], at: usize, answer: Removed, over: bool) -> usize
     requires { at + 57 ≤ length out.old }
-    ensures put { Put out.old at (text_of removeText (saidRemoved answer over) []) out.new result }
+    ensures put { Put out.old at (text_of remove_text (said_removed answer over) []) out.new result }
     ensures upper_bound { result ≤ at + 57 }
 {
     match answer {
@@ -133,8 +133,8 @@ fn put_numbers(out: &mut [u8], at: usize, numbers: &[u64], count: usize) -> usiz
 
 // The ring's keys stand in `keys`, a slot and a generation each.
 pub fn put_ring(out: &mut [u8], at: usize, answer: Number, keys: &[u64]) -> usize
-    requires { (at + 28 + length keys.now * 21 ≤ length out.old) × Places (saidNumber answer false) keys.now }
-    ensures put { Put out.old at (text_of ringText (saidNumber answer false) keys.now) out.new result }
+    requires { (at + 28 + length keys.now * 21 ≤ length out.old) × Places (said_number answer false) keys.now }
+    ensures put { Put out.old at (text_of ring_text (said_number answer false) keys.now) out.new result }
     ensures upper_bound { result ≤ at + 28 + length keys.now * 21 }
 {
     match answer {
@@ -157,7 +157,7 @@ pub struct Obeyed {
 // What a call hands back, told: its answer printed, beside the head.
 pub fn tell_inserted(out: &mut [u8], at: usize, r: HeadInserted) -> Obeyed
     requires { at + 45 ≤ length out.old }
-    ensures { Told keyText (saidInserted r.answer) r.head out.old at 45 out.new result }
+    ensures { Told key_text (said_inserted r.answer) r.head out.old at 45 out.new result }
 {
     let head = r.head;
     let answer = r.answer;
@@ -167,7 +167,7 @@ pub fn tell_inserted(out: &mut [u8], at: usize, r: HeadInserted) -> Obeyed
 
 pub fn tell_joined(out: &mut [u8], at: usize, r: HeadJoined) -> Obeyed
     requires { at + 98 ≤ length out.old }
-    ensures { Told unionText (saidJoined r.answer) r.head out.old at 98 out.new result }
+    ensures { Told union_text (said_joined r.answer) r.head out.old at 98 out.new result }
 {
     let head = r.head;
     let answer = r.answer;
@@ -177,7 +177,7 @@ pub fn tell_joined(out: &mut [u8], at: usize, r: HeadJoined) -> Obeyed
 
 pub fn tell_removed(out: &mut [u8], at: usize, r: HeadRemoved) -> Obeyed
     requires { at + 57 ≤ length out.old }
-    ensures { Told removeText (saidRemoved r.answer r.over) r.head out.old at 57 out.new result }
+    ensures { Told remove_text (said_removed r.answer r.over) r.head out.old at 57 out.new result }
 {
     let head = r.head;
     let answer = r.answer;

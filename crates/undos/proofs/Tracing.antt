@@ -8,15 +8,15 @@ use native.Mathlib.Omega.{arith}
 use lib.Dec.{eqb→eq, eqb_refl}
 use Rattle.rules.specs.declared.Memory.{Memory}
 use Rattle.rules.specs.Notation.{◌==◌, steps}
-use Rattle.rules.specs.Tables.{generationOf, class_of, next_of, bytes_of, count_of, mark_of, State, blank, elemSide, size_at}
-use Rattle.rules.specs.Sound.{bytesAlong}
+use Rattle.rules.specs.Tables.{generation_of, class_of, next_of, bytes_of, count_of, mark_of, State, blank, elem_side, size_at}
+use Rattle.rules.specs.Sound.{bytes_along}
 use Rattle.rules.specs.Undo.{Remembers}
 use Rattle.rules.specs.Calls.{Ready, Is}
-use Rattle.rules.proofs.laws.Sides.{live_of, live_to}
-use Rattle.rules.proofs.laws.Tests.{is-of}
-use Rattle.rules.proofs.laws.Safe.{LiveSlot}
-use Rattle.rules.proofs.laws.Traced.{Traced}
-use Rattle.rules.proofs.laws.Described.{described}
+use Rattle.rules.proofs.Laws.Sides.{live_of, live_to}
+use Rattle.rules.proofs.Laws.Tests.{is_of}
+use Rattle.rules.proofs.Laws.Safe.{LiveSlot}
+use Rattle.rules.proofs.Laws.Traced.{Traced}
+use Rattle.rules.proofs.Laws.Described.{described}
 use Rattle.slots.specs.Asked.{Along}
 
 -- ---- the steps that are left
@@ -26,38 +26,38 @@ pub record Stepping (e : List ℕ) (n x left at : ℕ) : Type 0 where
   pub rest : steps (next_of e) left at ≡ steps (next_of e) n x
 
 module _ (e : List ℕ) (n x left at : ℕ) (s : Stepping e n x left at) where
-  pub stepping-next : 0 < left → Stepping e n x (left - 1) (next_of e at)
-  stepping-next h = go left h s.along s.rest
+  pub stepping_next : 0 < left → Stepping e n x (left - 1) (next_of e at)
+  stepping_next h = go left h s.along s.rest
     where
       go : (k : ℕ) → 0 < k → Along e k at → steps (next_of e) k at ≡ steps (next_of e) n x → Stepping e n x (k - 1) (next_of e at)
       go zero h a r = absurd (omega arith)
       go (suc k) h a r = let q : suc k - 1 ≡ k = omega arith in rw q (record { along = record { each = λ j l. a.each (suc j) (omega arith) }; rest = r })
 
-  pub stepping-done : left ≤ 0 → at ≡ steps (next_of e) n x
-  stepping-done h = let z : left ≡ 0 = omega arith in rw z at s.rest
+  pub stepping_done : left ≤ 0 → at ≡ steps (next_of e) n x
+  stepping_done h = let z : left ≡ 0 = omega arith in rw z at s.rest
 
 -- ---- the bytes that are left
 
 pub record Weighing (e : List ℕ) (n x left at bytes : ℕ) : Type 0 where
   pub along : Along e left at
-  pub rest : bytes + bytesAlong e left at ≡ bytesAlong e n x
+  pub rest : bytes + bytes_along e left at ≡ bytes_along e n x
 
 module _ (e : List ℕ) (n x left at bytes : ℕ) (s : Weighing e n x left at bytes) where
-  pub weighing-next : 0 < left → Weighing e n x (left - 1) (next_of e at) (bytes + bytes_of e at)
-  weighing-next h = go left h s.along s.rest
+  pub weighing_next : 0 < left → Weighing e n x (left - 1) (next_of e at) (bytes + bytes_of e at)
+  weighing_next h = go left h s.along s.rest
     where
-      go : (k : ℕ) → 0 < k → Along e k at → bytes + bytesAlong e k at ≡ bytesAlong e n x → Weighing e n x (k - 1) (next_of e at) (bytes + bytes_of e at)
+      go : (k : ℕ) → 0 < k → Along e k at → bytes + bytes_along e k at ≡ bytes_along e n x → Weighing e n x (k - 1) (next_of e at) (bytes + bytes_of e at)
       go zero h a r = absurd (omega arith)
       go (suc k) h a r = let q : suc k - 1 ≡ k = omega arith in rw q (record { along = record { each = λ j l. a.each (suc j) (omega arith) }; rest = omega (arith, r) })
 
   -- the next size is part of the whole
-  pub weighing-fits : 0 < left → bytes + bytes_of e at ≤ bytesAlong e n x
-  weighing-fits h = let w = weighing-next h in omega (arith, w.rest)
+  pub weighing_fits : 0 < left → bytes + bytes_of e at ≤ bytes_along e n x
+  weighing_fits h = let w = weighing_next h in omega (arith, w.rest)
 
-  pub weighing-done : left ≤ 0 → bytes ≡ bytesAlong e n x
-  weighing-done h = go left h s.rest
+  pub weighing_done : left ≤ 0 → bytes ≡ bytes_along e n x
+  weighing_done h = go left h s.rest
     where
-      go : (k : ℕ) → k ≤ 0 → bytes + bytesAlong e k at ≡ bytesAlong e n x → bytes ≡ bytesAlong e n x
+      go : (k : ℕ) → k ≤ 0 → bytes + bytes_along e k at ≡ bytes_along e n x → bytes ≡ bytes_along e n x
       go zero h r = omega (arith, r)
       go (suc k) h r = absurd (omega arith)
 
@@ -71,19 +71,19 @@ module _ (st : State) where
   n = st.head.undo.moved
 
   pub not_none : x ≡ 0 → Traced st → ⊥
-  not_none e t = let l = live_of (elemSide st) x t.kept in omega (arith, l.low)
+  not_none e t = let l = live_of (elem_side st) x t.kept in omega (arith, l.low)
 
   pub not-past : st.head.elems.extent < x → Traced st → ⊥
-  not-past h t = let l = live_of (elemSide st) x t.kept in omega (arith, l.high)
+  not-past h t = let l = live_of (elem_side st) x t.kept in omega (arith, l.high)
 
-  pub not_free : generationOf st.elems x ≡ 0 → Traced st → ⊥
-  not_free e t = (live_of (elemSide st) x t.kept).used e
+  pub not_free : generation_of st.elems x ≡ 0 → Traced st → ⊥
+  not_free e t = (live_of (elem_side st) x t.kept).used e
 
   pub not-sealed : (class : ℕ) → class ≡ class_of st.elems x → mark_of st.shared class ≢ 0 → Traced st → ⊥
   not-sealed class e n t = n (ap (mark_of st.shared) e ∙ t.unsealed)
 
   -- the slot is live
-  pub kept-live : x ≢ 0 → x ≤ st.head.elems.extent → generationOf st.elems x ≢ 0 → LiveSlot st x
+  pub kept-live : x ≢ 0 → x ≤ st.head.elems.extent → generation_of st.elems x ≢ 0 → LiveSlot st x
   kept-live a b c = record { some = omega arith; within = b; used = omega arith }
 
   -- its class and size
@@ -96,8 +96,8 @@ module _ (st : State) where
 
     -- so the walk decides
     pub walked : LiveSlot st x → n ≢ 0 → n + n ≤ size → st.head.shared.root ≢ 0 → mark_of st.shared class ≡ 0 → Is (Traced st) (steps (next_of st.elems) n x == st.head.undo.gone)
-    walked l a b r m = is-of (steps (next_of st.elems) n x == st.head.undo.gone)
-        (λ t. record { kept = live_to (elemSide st) x (record { low = l.some; high = l.within; used = omega (arith, l.used) }); some = omega arith; half = rw size_is at b; leads = eqb→eq (steps (next_of st.elems) n x) st.head.undo.gone t; root = r; unsealed = ap (mark_of st.shared) (sym at) ∙ m })
+    walked l a b r m = is_of (steps (next_of st.elems) n x == st.head.undo.gone)
+        (λ t. record { kept = live_to (elem_side st) x (record { low = l.some; high = l.within; used = omega (arith, l.used) }); some = omega arith; half = rw size_is at b; leads = eqb→eq (steps (next_of st.elems) n x) st.head.undo.gone t; root = r; unsealed = ap (mark_of st.shared) (sym at) ∙ m })
         (λ t. rw t.leads (eqb_refl st.head.undo.gone))
 
 -- ---- the whole
@@ -116,14 +116,14 @@ module _ (st : State) (R : Ready st) where
     not-moved n r = n (ap (λ (m : Memory). m.moved) (zeros r))
 
     pub value_tells : st.head.undo.gone ≡ 0 → st.head.undo.moved ≡ 0 → Is (Remembers st) (st.head.undo.value == 0)
-    value_tells f g = is-of (st.head.undo.value == 0)
+    value_tells f g = is_of (st.head.undo.value == 0)
         (λ t. let v = eqb→eq st.head.undo.value 0 t in inl (λ i. record { kept = e i; gone = f i; moved = g i; value = v i }))
         (λ r. rw (ap (λ (m : Memory). m.value) (zeros r)) (eqb_refl 0))
 
   -- something kept: the walk tells
-  pub walk-tells : st.head.undo.kept ≢ 0 → (b : Bool) → Is (Traced st) b → Is (Remembers st) b
-  walk-tells n true t = inr ((described st R).1 t)
-  walk-tells n false q = go
+  pub walk_tells : st.head.undo.kept ≢ 0 → (b : Bool) → Is (Traced st) b → Is (Remembers st) b
+  walk_tells n true t = inr ((described st R).1 t)
+  walk_tells n false q = go
     where
       go : Remembers st → ⊥
       go (inl e) = n (ap (λ (m : Memory). m.kept) e)

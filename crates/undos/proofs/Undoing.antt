@@ -5,22 +5,22 @@ use mathlib.Core.Logic.{◌≢◌}
 use mathlib.Core.List.{List, []}
 use native.Mathlib.Omega.{arith}
 use Rattle.rules.specs.declared.Refusal.TheVariants.{Nothing}
-use Rattle.rules.specs.Tables.{headerWidth, row, class_of, count_of, total_of, State, state_of, withPools, sharedSide}
-use Rattle.rules.specs.Sound.{bytesAlong}
+use Rattle.rules.specs.Tables.{header_width, row, class_of, count_of, total_of, State, state_of, with_pools, shared_side}
+use Rattle.rules.specs.Sound.{bytes_along}
 use Rattle.rules.specs.Refusals.{refuse, answer, outcome}
 use Rattle.rules.specs.Runs.{header, counted, rewritten, exchanged}
 use Rattle.rules.specs.Undo
-use Rattle.rules.specs.Undo.{takenBack}
+use Rattle.rules.specs.Undo.{taken_back}
 use Rattle.rules.specs.Calls.{Ready, step, undo}
-use Rattle.rules.specs.Answers.{afterDone}
+use Rattle.rules.specs.Answers.{after_done}
 use Rattle.rules.specs.declared.Head.{Head}
 use Rattle.rules.specs.declared.Done.TheVariants as done
 use mathlib.Core.Bool.{false}
-use Rattle.rules.proofs.laws.Columns.{length-row}
-use Rattle.rules.proofs.laws.Pools.{if-eq, if-ne, live_in}
-use Rattle.rules.proofs.laws.Working.{view}
-use Rattle.rules.proofs.laws.Safe.{working, safe}
-use Rattle.rules.proofs.laws.Traced.{Traced, hx, gone-live, traced-along, traced-light}
+use Rattle.rules.proofs.Laws.Columns.{length-row}
+use Rattle.rules.proofs.Laws.Pools.{if_eq, if_ne, live_in}
+use Rattle.rules.proofs.Laws.Working.{view}
+use Rattle.rules.proofs.Laws.Safe.{working, safe}
+use Rattle.rules.proofs.Laws.Traced.{Traced, hx, gone-live, traced_along, traced_light}
 use Rattle.rules.specs.Slots.{slot_of, taken}
 use Rattle.slots.specs.Asked.{Within, Next}
 use Rattle.undos.specs.Undo.{Undoable}
@@ -36,7 +36,7 @@ module _ (st : State) (R : Ready st) (t : Traced st) where
 
   root_is : slot_of st.head.shared ≡ st.head.shared.root
   unfolding slot_of
-  root_is = if-ne st.head.shared.root 0 _ _ t.root
+  root_is = if_ne st.head.shared.root 0 _ _ t.root
 
   pub undoable : Undoable st
   undoable =
@@ -52,29 +52,29 @@ module _ (st : State) (R : Ready st) (t : Traced st) where
         fewer = omega (arith, t.half);
         root = rw root_is (record { some = omega (arith, t.root); inside = omega arith });
         takes = record { extent = omega arith; live = omega arith; inside = omega arith };
-        along = record { each = λ k m. let q = traced-along st R t k m in record { some = q.low; inside = q.high } };
-        light = traced-light st R t;
+        along = record { each = λ k m. let q = traced_along st R t k m in record { some = q.low; inside = q.high } };
+        light = traced_light st R t;
         total = f.total;
       }
 
 -- what the steps leave is the rule's state
-pub class-in : (st : State) (d : ℕ) (vs : List ℕ) → Undoable st → Within headerWidth (row headerWidth st.shared d vs) (class_of st.elems st.head.undo.kept)
-class-in st d vs u = record { some = u.class.some; inside = rw (length-row headerWidth st.shared d vs) u.class.inside }
+pub class_in : (st : State) (d : ℕ) (vs : List ℕ) → Undoable st → Within header_width (row header_width st.shared d vs) (class_of st.elems st.head.undo.kept)
+class_in st d vs u = record { some = u.class.some; inside = rw (length-row header_width st.shared d vs) u.class.inside }
 
-pub taken-back-by : (st : State) (next : Head) (e s : List ℕ) (c size total z d : ℕ)
-    → next ≡ withPools st.head st.head.elems (taken (sharedSide st)) → d ≡ slot_of st.head.shared → c ≡ class_of st.elems st.head.undo.kept → size ≡ count_of st.shared c → total ≡ total_of st.shared c
-    → z ≡ bytesAlong (exchanged st.elems st.head.undo.kept st.head.undo.gone) st.head.undo.moved st.head.undo.gone
+pub taken_back_by : (st : State) (next : Head) (e s : List ℕ) (c size total z d : ℕ)
+    → next ≡ with_pools st.head st.head.elems (taken (shared_side st)) → d ≡ slot_of st.head.shared → c ≡ class_of st.elems st.head.undo.kept → size ≡ count_of st.shared c → total ≡ total_of st.shared c
+    → z ≡ bytes_along (exchanged st.elems st.head.undo.kept st.head.undo.gone) st.head.undo.moved st.head.undo.gone
     → e ≡ rewritten st.head.undo.moved (exchanged st.elems st.head.undo.kept st.head.undo.gone) st.head.undo.gone d
-    → s ≡ counted (row headerWidth st.shared d (header st.head.undo.moved st.head.undo.value 0 z)) c (size - st.head.undo.moved) (total - z)
-    → state_of next e s ≡ takenBack st
-unfolding takenBack
-taken-back-by st next e s c size total z d p q r f k b g h = rw (g, h, p, f, k, b, r, q)
+    → s ≡ counted (row header_width st.shared d (header st.head.undo.moved st.head.undo.value 0 z)) c (size - st.head.undo.moved) (total - z)
+    → state_of next e s ≡ taken_back st
+unfolding taken_back
+taken_back_by st next e s c size total z d p q r f k b g h = rw (g, h, p, f, k, b, r, q)
 
 -- undo, refused and accepted
 pub undo-refused : (st : State) → st.head.undo.kept ≡ 0 → outcome st [] (refuse Nothing) ≡ step st [] undo
 unfolding Undo.undo
-undo-refused st e = ap (outcome st []) (sym (if-eq st.head.undo.kept 0 _ _ e))
+undo-refused st e = ap (outcome st []) (sym (if_eq st.head.undo.kept 0 _ _ e))
 
-pub undo-accepted : (st : State) (next : Head) (e s : List ℕ) → st.head.undo.kept ≢ 0 → state_of next e s ≡ takenBack st → afterDone (record { head = next; answer = done.Done; over = false }) e s [] ≡ step st [] undo
+pub undo-accepted : (st : State) (next : Head) (e s : List ℕ) → st.head.undo.kept ≢ 0 → state_of next e s ≡ taken_back st → after_done (record { head = next; answer = done.Done; over = false }) e s [] ≡ step st [] undo
 unfolding Undo.undo
-undo-accepted st next e s n q = ap (λ (t : State). outcome st [] (answer [] t)) q ∙ ap (outcome st []) (sym (if-ne st.head.undo.kept 0 _ _ n))
+undo-accepted st next e s n q = ap (λ (t : State). outcome st [] (answer [] t)) q ∙ ap (outcome st []) (sym (if_ne st.head.undo.kept 0 _ _ n))

@@ -1,13 +1,13 @@
 // Undo (ticket 7) at the inner door, equal to its rule on a ready state whose memory is part of its soundness; and the check of that memory.
 ghost use Rattle.std.specs.Prelude.{◌≡◌, [], ◌<◌};
 ghost use Rattle.rules.specs.Notation.{steps};
-ghost use Rattle.rules.specs.Tables.{totalBound, state_of, next_of};
-ghost use Rattle.rules.specs.Sound.{bytesAlong};
-ghost use Rattle.rules.specs.Undo.{Remembers, takenBack};
+ghost use Rattle.rules.specs.Tables.{total_bound, state_of, next_of};
+ghost use Rattle.rules.specs.Sound.{bytes_along};
+ghost use Rattle.rules.specs.Undo.{Remembers, taken_back};
 ghost use Rattle.rules.specs.Calls.{Ready, Is, step};
-ghost use Rattle.rules.proofs.laws.Traced.{Traced};
+ghost use Rattle.rules.proofs.Laws.Traced.{Traced};
 ghost use Rattle.rules.specs.Calls as calls;
-ghost use Rattle.rules.specs.Answers.{afterDone};
+ghost use Rattle.rules.specs.Answers.{after_done};
 ghost use Rattle.slots.specs.Asked.{Along};
 ghost use Rattle.undos.specs.Undo.{Undoable};
 
@@ -17,8 +17,8 @@ use rules::{
 
 // Ticket 6: the bytes of `n` frames along next from `x`.
 fn weigh(e: &[u64], n: u64, x: u64) -> u64
-    requires { Along e.now n x × (bytesAlong e.now n x < totalBound) }
-    ensures { result ≡ bytesAlong e.now n x }
+    requires { Along e.now n x × (bytes_along e.now n x < total_bound) }
+    ensures { result ≡ bytes_along e.now n x }
 {
     let mut left = n;
     let mut at = x;
@@ -36,7 +36,7 @@ fn weigh(e: &[u64], n: u64, x: u64) -> u64
 // The union that the head remembers is taken back.
 fn take_back(head: Head, elems: &mut [u64], shared: &mut [u64]) -> Head
     requires { Undoable (state_of head elems.old shared.old) }
-    ensures { state_of result elems.new shared.new ≡ takenBack (state_of head elems.old shared.old) }
+    ensures { state_of result elems.new shared.new ≡ taken_back (state_of head elems.old shared.old) }
 {
     let memory = head.undo;
     let kept = slots::get(elems, FRAME, CLASS, memory.kept);
@@ -55,7 +55,7 @@ fn take_back(head: Head, elems: &mut [u64], shared: &mut [u64]) -> Head
 // Undo.
 pub fn undo(head: Head, elems: &mut [u64], shared: &mut [u64]) -> HeadDone
     requires { Ready (state_of head elems.old shared.old) × Remembers (state_of head elems.old shared.old) }
-    ensures { afterDone result elems.new shared.new [] ≡ step (state_of head elems.old shared.old) [] calls.undo }
+    ensures { after_done result elems.new shared.new [] ≡ step (state_of head elems.old shared.old) [] calls.undo }
 {
     let memory = head.undo;
     if memory.kept == 0 {

@@ -12,20 +12,20 @@ use Rattle.rules.specs.declared.Key.{Key}
 use Rattle.rules.specs.declared.Joined.TheVariants.{Into}
 use Rattle.rules.specs.declared.Refusal.TheVariants.{SameClass, Sealed}
 use Rattle.rules.specs.Notation.{if◌then◌else◌, ◌<?◌}
-use Rattle.rules.specs.Tables.{class_of, value_of, total_of, next_of, State, state_of, size_at, isSealed, remembering, withUndo}
+use Rattle.rules.specs.Tables.{class_of, value_of, total_of, next_of, State, state_of, size_at, is_sealed, remembering, with_undo}
 use Rattle.rules.specs.Refusals.{Outcome, outcome, refuse, answer}
-use Rattle.rules.specs.Slots.{freeShared}
+use Rattle.rules.specs.Slots.{free_shared}
 use Rattle.rules.specs.Runs.{counted, rewritten, exchanged, joined, remembered, keeping}
-use Rattle.rules.specs.Answers.{afterJoined}
+use Rattle.rules.specs.Answers.{after_joined}
 use Rattle.slots.specs.Asked.{Next}
 use Rattle.slots.proofs.Rewrites.{rewritten-next, length-rewritten}
 use Rattle.unions.specs.declared.Roles.{Roles}
 use Rattle.slots.specs.Asked.{OnLive}
-use Rattle.unions.specs.Union.{BothLive, unionAt}
+use Rattle.unions.specs.Union.{BothLive, union_at}
 
 -- a live slot and its next stand in the table after the rewrite
-pub next-in : (st : State) (x n y c : ℕ) → OnLive st x → Next (rewritten n st.elems y c) x
-next-in st x n y c o =
+pub next_in : (st : State) (x n y c : ℕ) → OnLive st x → Next (rewritten n st.elems y c) x
+next_in st x n y c o =
     let e : length (rewritten n st.elems y c) ≡ length st.elems = length-rewritten n st.elems y c in
     let t = o.safe.elems in
     let f = o.frame in
@@ -36,7 +36,7 @@ next-in st x n y c o =
     }
 
 pub joined_by : (st : State) (x y c : ℕ) (next : Head) (e s s' : List ℕ)
-    → state_of next e s' ≡ freeShared (state_of st.head e s) c → c ≡ class_of st.elems y
+    → state_of next e s' ≡ free_shared (state_of st.head e s) c → c ≡ class_of st.elems y
     → e ≡ exchanged (rewritten (size_at st y) st.elems y (class_of st.elems x)) x y
     → s ≡ counted st.shared (class_of st.elems x) (size_at st x + size_at st y) (total_of st.shared (class_of st.elems x) + total_of st.shared (class_of st.elems y))
     → state_of next e s' ≡ joined st x y
@@ -45,10 +45,10 @@ joined_by st x y c next e s s' f p q r = f ∙ rw (p, q, r)
 
 pub keeping-by : (st : State) (x y : ℕ) (kept : Key) (next : Head) (e s : List ℕ) (was moved : ℕ)
     → was ≡ value_of st.shared (class_of st.elems y) → moved ≡ size_at st y → state_of next e s ≡ joined st x y
-    → afterJoined (record { head = remembering next (record { kept = x; gone = y; moved = moved; value = was }); answer = Into was kept moved }) e s [] ≡ outcome st [] (keeping st x y kept)
+    → after_joined (record { head = remembering next (record { kept = x; gone = y; moved = moved; value = was }); answer = Into was kept moved }) e s [] ≡ outcome st [] (keeping st x y kept)
 unfolding keeping
 keeping-by st x y kept next e s was moved p q f =
-    rw (p, q) (ap (λ (t : State). outcome st [] (answer (value_of st.shared (class_of st.elems y) ∷ kept.slot ∷ kept.generation ∷ size_at st y ∷ []) (withUndo t (remembered st x y)))) f)
+    rw (p, q) (ap (λ (t : State). outcome st [] (answer (value_of st.shared (class_of st.elems y) ∷ kept.slot ∷ kept.generation ∷ size_at st y ∷ []) (with_undo t (remembered st x y)))) f)
 
 -- who keeps its class
 abbrev pub chosen : (x y : ℕ) → (j k : Key) → Bool → Roles
@@ -59,24 +59,24 @@ module _ (st : State) (x y : ℕ) (j k : Key) where
   chosen_live true r e l = rw e (record { first = l.second; second = l.first })
   chosen_live false r e l = rw e l
 
-  chosen-keeping : (b : Bool) (r : Roles) → r ≡ chosen x y j k b → keeping st r.keeps r.goes r.kept ≡ (if b then keeping st y x k else keeping st x y j)
-  chosen-keeping true r e = rw e
-  chosen-keeping false r e = rw e
+  chosen_keeping : (b : Bool) (r : Roles) → r ≡ chosen x y j k b → keeping st r.keeps r.goes r.kept ≡ (if b then keeping st y x k else keeping st x y j)
+  chosen_keeping true r e = rw e
+  chosen_keeping false r e = rw e
 
-  pub union-same : (o : Outcome) → class_of st.elems x ≡ class_of st.elems y → o ≡ outcome st [] (refuse SameClass) → o ≡ outcome st [] (unionAt st x y j k)
-  unfolding unionAt
+  pub union-same : (o : Outcome) → class_of st.elems x ≡ class_of st.elems y → o ≡ outcome st [] (refuse SameClass) → o ≡ outcome st [] (union_at st x y j k)
+  unfolding union_at
   union-same o e p = simp (eq-eqb _ _ e) p
 
   module _ (n : class_of st.elems x ≢ class_of st.elems y) where
-    pub union-first : (o : Outcome) → isSealed st x ≡ true → o ≡ outcome st [] (refuse Sealed) → o ≡ outcome st [] (unionAt st x y j k)
-    unfolding unionAt
+    pub union-first : (o : Outcome) → is_sealed st x ≡ true → o ≡ outcome st [] (refuse Sealed) → o ≡ outcome st [] (union_at st x y j k)
+    unfolding union_at
     union-first o s p = simp (ne_eqb _ _ n, s) p
 
-    pub union-second : (o : Outcome) → isSealed st x ≡ false → isSealed st y ≡ true → o ≡ outcome st [] (refuse Sealed) → o ≡ outcome st [] (unionAt st x y j k)
-    unfolding unionAt
+    pub union-second : (o : Outcome) → is_sealed st x ≡ false → is_sealed st y ≡ true → o ≡ outcome st [] (refuse Sealed) → o ≡ outcome st [] (union_at st x y j k)
+    unfolding union_at
     union-second o s t p = simp (ne_eqb _ _ n, s, t) p
 
-    pub union-differ : (o : Outcome) (b : Bool) (r : Roles) → isSealed st x ≡ false → isSealed st y ≡ false → r ≡ chosen x y j k b
-        → (size_at st x <? size_at st y) ≡ b → o ≡ outcome st [] (keeping st r.keeps r.goes r.kept) → o ≡ outcome st [] (unionAt st x y j k)
-    unfolding unionAt
-    union-differ o b r s t e l p = simp (ne_eqb _ _ n, s, t, l) (p ∙ ap (outcome st []) (chosen-keeping b r e))
+    pub union_differ : (o : Outcome) (b : Bool) (r : Roles) → is_sealed st x ≡ false → is_sealed st y ≡ false → r ≡ chosen x y j k b
+        → (size_at st x <? size_at st y) ≡ b → o ≡ outcome st [] (keeping st r.keeps r.goes r.kept) → o ≡ outcome st [] (union_at st x y j k)
+    unfolding union_at
+    union_differ o b r s t e l p = simp (ne_eqb _ _ n, s, t, l) (p ∙ ap (outcome st []) (chosen_keeping b r e))

@@ -6,8 +6,8 @@ ghost use Rattle.rules.specs.Tables.{state_of};
 ghost use Rattle.rules.specs.Refusals.{outcome};
 ghost use Rattle.rules.specs.Runs.{keeping};
 ghost use Rattle.rules.specs.Calls.{Ready, step, union};
-ghost use Rattle.rules.specs.Answers.{afterJoined};
-ghost use Rattle.unions.specs.Union.{BothLive, unionAt};
+ghost use Rattle.rules.specs.Answers.{after_joined};
+ghost use Rattle.unions.specs.Union.{BothLive, union_at};
 
 use rules::{
     CLASS, COUNT, FRAME, Found, HEADER, Head, HeadJoined, Joined, Key, Memory, Refusal, TOTAL,
@@ -43,7 +43,7 @@ fn assign(smaller: bool, x: u64, y: u64, j: Key, k: Key) -> Roles
 // The class of `x` is kept, and that of `y` goes: its entries are rewritten before the links are exchanged.
 fn join(head: Head, elems: &mut [u64], shared: &mut [u64], x: u64, y: u64, kept: Key) -> HeadJoined
     requires { BothLive (state_of head elems.old shared.old) x y }
-    ensures { afterJoined result elems.new shared.new [] ≡ outcome (state_of head elems.old shared.old) [] (keeping (state_of head elems.old shared.old) x y kept) }
+    ensures { after_joined result elems.new shared.new [] ≡ outcome (state_of head elems.old shared.old) [] (keeping (state_of head elems.old shared.old) x y kept) }
 {
     let keeps = slots::get(elems, FRAME, CLASS, x);
     let goes = slots::get(elems, FRAME, CLASS, y);
@@ -80,7 +80,7 @@ fn union_at(
     k: Key,
 ) -> HeadJoined
     requires { BothLive (state_of head elems.old shared.old) x y }
-    ensures { afterJoined result elems.new shared.new [] ≡ outcome (state_of head elems.old shared.old) [] (unionAt (state_of head elems.old shared.old) x y j k) }
+    ensures { after_joined result elems.new shared.new [] ≡ outcome (state_of head elems.old shared.old) [] (union_at (state_of head elems.old shared.old) x y j k) }
 {
     let first = slots::get(elems, FRAME, CLASS, x);
     let second = slots::get(elems, FRAME, CLASS, y);
@@ -112,7 +112,7 @@ fn union_at(
 // Rules 6, union.
 pub fn union(head: Head, elems: &mut [u64], shared: &mut [u64], j: Key, k: Key) -> HeadJoined
     requires { Ready (state_of head elems.old shared.old) }
-    ensures { afterJoined result elems.new shared.new [] ≡ step (state_of head elems.old shared.old) [] (union j k) }
+    ensures { after_joined result elems.new shared.new [] ≡ step (state_of head elems.old shared.old) [] (union j k) }
 {
     let x = match slots::find(head, elems, j) {
         Found::Live(x) => x,

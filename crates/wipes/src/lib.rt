@@ -1,11 +1,11 @@
 // Rules 2 and 12: fresh and clear.
 // Ported from clear of impl_surject_arena_trait.rs (triple_arena 0.15.1, NOTICE).
 ghost use Rattle.std.specs.Prelude.{◌≡◌, List, [], ◌++◌, ℕ, ◌+◌, ◌*◌, ◌≤◌, ◌<◌, length, replicate, drop};
-ghost use Rattle.rules.specs.Tables.{frameWidth, headerWidth, state_of};
-ghost use Rattle.rules.specs.Slots.{emptyPool, empty};
+ghost use Rattle.rules.specs.Tables.{frame_width, header_width, state_of};
+ghost use Rattle.rules.specs.Slots.{empty_pool, empty};
 ghost use Rattle.rules.specs.Calls as calls;
-ghost use Rattle.rules.specs.Calls.{Ready, step, freshStep};
-ghost use Rattle.rules.specs.Answers.{afterDone};
+ghost use Rattle.rules.specs.Calls.{Ready, step, fresh_step};
+ghost use Rattle.rules.specs.Answers.{after_done};
 ghost use Rattle.wipes.specs.Wiped.{ZeroPast};
 
 use rules::{BLANK, Done, FRAME, HEADER, Head, HeadDone, Pool, Refusal};
@@ -34,7 +34,7 @@ pub fn blank(
     shared: &mut [u64],
     classed: u64,
 ) -> Head
-    requires { ZeroPast frames frameWidth used elems.old × ZeroPast headers headerWidth classed shared.old }
+    requires { ZeroPast frames frame_width used elems.old × ZeroPast headers header_width classed shared.old }
     ensures { state_of result elems.new shared.new ≡ empty frames headers generation }
 {
     zero(elems, used * FRAME);
@@ -48,7 +48,7 @@ pub fn blank(
 }
 
 fn empty_pool(capacity: u64) -> Pool
-    ensures { result ≡ emptyPool capacity }
+    ensures { result ≡ empty_pool capacity }
 {
     Pool {
         capacity,
@@ -66,7 +66,7 @@ pub fn fresh(
     elems: &mut [u64],
     shared: &mut [u64],
 ) -> HeadDone
-    ensures { afterDone result elems.new shared.new [] ≡ freshStep (state_of head elems.old shared.old) frames headers }
+    ensures { after_done result elems.new shared.new [] ≡ fresh_step (state_of head elems.old shared.old) frames headers }
 {
     if !both_fit(elems, shared, frames, headers) {
         return HeadDone {
@@ -86,7 +86,7 @@ pub fn fresh(
 // Rules 12, clear: it stops at the extents, past which a sound table is zero (Sound 6).
 pub fn clear(head: Head, elems: &mut [u64], shared: &mut [u64]) -> HeadDone
     requires { Ready (state_of head elems.old shared.old) }
-    ensures { afterDone result elems.new shared.new [] ≡ step (state_of head elems.old shared.old) [] calls.clear }
+    ensures { after_done result elems.new shared.new [] ≡ step (state_of head elems.old shared.old) [] calls.clear }
 {
     let raised = head.raise();
     let generation = raised.head.generation;

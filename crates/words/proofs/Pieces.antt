@@ -13,7 +13,7 @@ use Rattle.rules.specs.Notation.{if◌then◌else◌, ◌==◌}
 use Rattle.rules.specs.Script.{space, prepend, pieces, number, numbers, both}
 use Rattle.words.specs.declared.words.Numeral.{Numeral}
 use Rattle.words.specs.declared.words.Numeral.TheVariants.{Is}
-use Rattle.words.specs.Words.{onto, wordsAt, WordAt, option}
+use Rattle.words.specs.Words.{onto, words_at, WordAt, option}
 use Rattle.words.proofs.Decimals.{AtMost, number-most}
 
 -- ---- parts of a list
@@ -74,10 +74,10 @@ module _ (separator : ℕ) (line : List ℕ) (from : ℕ) where
         whole = w.whole ∙ rw (e, add-one, slice-suc from end line s l) (onto-prepend (slice from end line) b (pieces separator (drop (suc end) line)));
       }
 
-  pub within-separator : (end : ℕ) → Within end → end < length line → get_or line end 0 ≡ separator
+  pub within_separator : (end : ℕ) → Within end → end < length line → get_or line end 0 ≡ separator
       → pieces separator (drop from line) ≡ slice from end line ∷ pieces separator (drop (end + 1) line)
   unfolding pieces
-  within-separator end w l h =
+  within_separator end w l h =
       let e : pieces separator (drop end line) ≡ [] ∷ pieces separator (drop (suc end) line) =
       rw (drop-cons line end 0 l, eq-eqb (get_or line end 0) separator h) in
       w.whole ∙ rw (e, add-one, append-nil)
@@ -91,25 +91,25 @@ module _ (separator : ℕ) (line : List ℕ) (from : ℕ) where
 
 -- ---- a line's words
 
-pub words-here : (line : List ℕ) (at : ℕ) → at ≤ length line → wordsAt line at ≡ pieces space (drop at line)
-unfolding wordsAt
+pub words-here : (line : List ℕ) (at : ℕ) → at ≤ length line → words_at line at ≡ pieces space (drop at line)
+unfolding words_at
 words-here line at h = rw (le-leb at (length line) h)
 
-pub words-none : (line : List ℕ) (at : ℕ) → length line < at → wordsAt line at ≡ []
-unfolding wordsAt
+pub words-none : (line : List ℕ) (at : ℕ) → length line < at → words_at line at ≡ []
+unfolding words_at
 words-none line at h = rw (lt-leb at (length line) h)
 
-pub word-at-space : (line : List ℕ) (from end : ℕ) → Within space line from end → end < length line → get_or line end 0 ≡ space → WordAt line from end
-word-at-space line from end w l h =
+pub word_at_space : (line : List ℕ) (from end : ℕ) → Within space line from end → end < length line → get_or line end 0 ≡ space → WordAt line from end
+word_at_space line from end w l h =
     record {
       from = w.low;
       within = w.high;
-      words = words-here line from (omega arith) ∙ within-separator space line from end w l h
+      words = words-here line from (omega arith) ∙ within_separator space line from end w l h
           ∙ ap (λ (ws : List (List ℕ)). slice from end line ∷ ws) (sym (words-here line (end + 1) (omega arith)));
     }
 
-pub word-at-last : (line : List ℕ) (from end : ℕ) → Within space line from end → length line ≤ end → WordAt line from end
-word-at-last line from end w l =
+pub word_at_last : (line : List ℕ) (from end : ℕ) → Within space line from end → length line ≤ end → WordAt line from end
+word_at_last line from end w l =
     record {
       from = w.low;
       within = w.high;
@@ -120,14 +120,14 @@ word-at-last line from end w l =
 -- ---- the numbers of a line
 
 module _ (line : List ℕ) (at most : ℕ) (mosts : List ℕ) where
-  pub numbers-none : length line < at → numbers (most ∷ mosts) (wordsAt line at) ≡ none
+  pub numbers-none : length line < at → numbers (most ∷ mosts) (words_at line at) ≡ none
   unfolding numbers
   numbers-none h = rw (words-none line at h)
 
-  pub numbers-word : (end : ℕ) (found : Option ℕ) → WordAt line at end → number most (slice at end line) ≡ found
-      → numbers (most ∷ mosts) (wordsAt line at) ≡ both found (numbers mosts (wordsAt line (end + 1)))
+  pub numbers_word : (end : ℕ) (found : Option ℕ) → WordAt line at end → number most (slice at end line) ≡ found
+      → numbers (most ∷ mosts) (words_at line at) ≡ both found (numbers mosts (words_at line (end + 1)))
   unfolding numbers
-  numbers-word end found w e = rw (w.words, e)
+  numbers_word end found w e = rw (w.words, e)
 
 pub pieces-some : (separator : ℕ) (bs : List ℕ) → (p : List ℕ) × (ps : List (List ℕ)) × (pieces separator bs ≡ p ∷ ps)
 unfolding pieces
@@ -140,11 +140,11 @@ pieces-some separator (b ∷ bs) = go (b == separator) (pieces separator bs)
     go false (p ∷ ps) = (b ∷ p, ps, refl)
 
 -- a line ends where its numbers do
-pub numbers-over : (line : List ℕ) (at : ℕ) → at ≤ length line → numbers [] (wordsAt line at) ≡ none
+pub numbers-over : (line : List ℕ) (at : ℕ) → at ≤ length line → numbers [] (words_at line at) ≡ none
 unfolding numbers
 numbers-over line at h = let w = pieces-some space (drop at line) in rw (words-here line at h, w.2)
 
-pub numbers-end : (line : List ℕ) (at : ℕ) → length line < at → numbers [] (wordsAt line at) ≡ some []
+pub numbers-end : (line : List ℕ) (at : ℕ) → length line < at → numbers [] (words_at line at) ≡ some []
 unfolding numbers
 numbers-end line at h = rw (words-none line at h)
 

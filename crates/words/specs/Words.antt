@@ -15,14 +15,14 @@ onto xs [] = xs ∷ []
 onto xs (p ∷ ps) = (xs ++ p) ∷ ps
 
 -- the words from place `at` on; past the end there is none
-unfoldable pub wordsAt : (line : List ℕ) → (at : ℕ) → List (List ℕ)
-wordsAt line at = if at ≤? length line then pieces space (drop at line) else []
+unfoldable pub words_at : (line : List ℕ) → (at : ℕ) → List (List ℕ)
+words_at line at = if at ≤? length line then pieces space (drop at line) else []
 
 -- the word at `at` ends at `end`, and the next one begins past that
 pub record WordAt (line : List ℕ) (at end : ℕ) : Type 0 where
   pub from : at ≤ end
   pub within : end ≤ length line
-  pub words : wordsAt line at ≡ slice at end line ∷ wordsAt line (end + 1)
+  pub words : words_at line at ≡ slice at end line ∷ words_at line (end + 1)
 
 -- a byte is the digit `d`, or no digit if `d` is over 9
 pub record IsDigit (b d : ℕ) : Type 0 where
@@ -35,5 +35,5 @@ option Not = none
 
 -- the numbers of a line, one of which has been taken
 abbrev pub taken : (line : List ℕ) → (mosts : List ℕ) → Taken → Option (List ℕ)
-taken line mosts (Number value next) = both (some value) (numbers mosts (wordsAt line next))
+taken line mosts (Number value next) = both (some value) (numbers mosts (words_at line next))
 taken line mosts Nothing = none

@@ -1,9 +1,9 @@
 // A line of bytes, without its newline, read as one of the script's lines.
 ghost use Rattle.std.specs.Prelude.{ℕ, ◌≡◌, List, [], ◌∷◌};
 ghost use Rattle.rules.specs.Tables.{State};
-ghost use Rattle.rules.specs.Script.{u32, numbers, lineReply};
-ghost use Rattle.words.specs.Words.{wordsAt};
-ghost use Rattle.words.specs.Lines.{takenKey, lastKey, replyOf, Means};
+ghost use Rattle.rules.specs.Script.{u32, numbers, line_reply};
+ghost use Rattle.words.specs.Words.{words_at};
+ghost use Rattle.words.specs.Lines.{taken_key, last_key, reply_of, Means};
 
 use crate::words::{Numeral, Taken, last_number, take_number, word_end};
 use rules::Key;
@@ -55,7 +55,7 @@ pub enum LastKey {
 }
 
 fn take_key(line: &[u8], at: usize) -> TakenKey
-    ensures { (mosts : List ℕ) → numbers (u32 ∷ u32 ∷ mosts) (wordsAt line.now at) ≡ takenKey line.now mosts result }
+    ensures { (mosts : List ℕ) → numbers (u32 ∷ u32 ∷ mosts) (words_at line.now at) ≡ taken_key line.now mosts result }
 {
     let Taken::Number { value: slot, next } = take_number(line, at, U32) else {
         return TakenKey::Nothing;
@@ -75,7 +75,7 @@ fn take_key(line: &[u8], at: usize) -> TakenKey
 
 // The key at `at`, if it ends the line.
 fn last_key(line: &[u8], at: usize) -> LastKey
-    ensures { numbers (u32 ∷ u32 ∷ []) (wordsAt line.now at) ≡ lastKey result }
+    ensures { numbers (u32 ∷ u32 ∷ []) (words_at line.now at) ≡ last_key result }
 {
     let Taken::Number { value: slot, next } = take_number(line, at, U32) else {
         return LastKey::Not;
@@ -164,7 +164,7 @@ fn read_remove(line: &[u8]) -> Line
 
 // Script: a line, without its newline.
 pub fn read_line(line: &[u8]) -> Line
-    ensures { (st : State) → lineReply st line.now ≡ replyOf st result }
+    ensures { (st : State) → line_reply st line.now ≡ reply_of st result }
 {
     if LINE_MOST < line.len() {
         return Line::Malformed;

@@ -3,7 +3,7 @@ ghost use Rattle.std.specs.Prelude.{ℕ, ◌+◌, ◌≤◌, ◌≡◌, List, []
 ghost use Rattle.std.proofs.Math.Option.{some};
 ghost use Rattle.std.proofs.Math.Seq.{slice};
 ghost use Rattle.rules.specs.Script.{number, numbers, both};
-ghost use Rattle.words.specs.Words.{wordsAt, WordAt, option, IsDigit, taken};
+ghost use Rattle.words.specs.Words.{words_at, WordAt, option, IsDigit, taken};
 
 // What a word is as a number.
 #[derive(Drop)]
@@ -73,7 +73,7 @@ pub fn number(line: &[u8], from: usize, end: usize, most: u64) -> Numeral
 // The number at `at`, if there is a word there and it is one.
 pub fn take_number(line: &[u8], at: usize, most: u64) -> Taken
     requires { 9 ≤ most }
-    ensures { (mosts : List ℕ) → numbers (most ∷ mosts) (wordsAt line.now at) ≡ taken line.now mosts result }
+    ensures { (mosts : List ℕ) → numbers (most ∷ mosts) (words_at line.now at) ≡ taken line.now mosts result }
 {
     if line.len() < at {
         return Taken::Nothing;
@@ -91,7 +91,7 @@ pub fn take_number(line: &[u8], at: usize, most: u64) -> Taken
 // The number at `at`, if there is a word there, it is one and it is the line's last.
 pub fn last_number(line: &[u8], at: usize, most: u64) -> Numeral
     requires { 9 ≤ most }
-    ensures { numbers (most ∷ []) (wordsAt line.now at) ≡ both (option result) (some []) }
+    ensures { numbers (most ∷ []) (words_at line.now at) ≡ both (option result) (some []) }
 {
     let Taken::Number { value, next } = take_number(line, at, most) else {
         return Numeral::Not;

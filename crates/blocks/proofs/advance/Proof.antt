@@ -1,5 +1,5 @@
 -- `blocks::advance` meets its contract.
-use Rattle.blocks.proofs.Steps.{Same, advanced-line, advanced-part}
+use Rattle.blocks.proofs.Steps.{Same, advanced_line, advanced_part}
 use native.Mathlib.Omega.{arith}
 use borrow.Author.Rules.{rules}
 use Rattle.blocks.proofs.advance.Statement.{statement}
@@ -36,13 +36,13 @@ returns c =
     let g = c.before.before.before.before.before.before.before.before.before.before.before.before.before.before.before.before.before.before.before.gather in
     let s : Same a.keys.now a.out.now a.line.now o.new.1.1.1.0 o.new.1.1.1.1.0 g.new.1.1.0 =
     record { keys = search rules; out = search rules; line = g.ensures.long } in
-    advanced-line c.before.before.before.before.before.before.before.before.before.before.before.before.before.before.before.before.before.before.before.before.before.before.before.before.before.before.before.requires.0 g.ensures s c.before.before.before.before.before.before.before.before.before.before.before.before.before.before.if1.true o.ensures
+    advanced_line c.before.before.before.before.before.before.before.before.before.before.before.before.before.before.before.before.before.before.before.before.before.before.before.before.before.before.before.requires.0 g.ensures s c.before.before.before.before.before.before.before.before.before.before.before.before.before.before.if1.true o.ensures
 
 same-length-6 : tie.Need-same-length-6
 same-length-6 c = search rules
 
 returns-2 : tie.Need-returns-2
-returns-2 c = advanced-part c.before.before.before.before.before.before.before.before.before.before.before.before.before.requires.0 c.before.before.before.before.before.gather.ensures c.if1.false
+returns-2 c = advanced_part c.before.before.before.before.before.before.before.before.before.before.before.before.before.requires.0 c.before.before.before.before.before.gather.ensures c.if1.false
 
 pub advance-spec : {M : Type 1} → statement M
 advance-spec =

@@ -4,7 +4,7 @@ use mathlib.Core.Path.{refl}
 use borrow.Author.Rules.{rules}
 use native.Mathlib.Omega.{arith}
 use lib.ListN.{length}
-use Rattle.blocks.proofs.Steps.{Feeding, feeding-start, feeding-next, fed, Lengths}
+use Rattle.blocks.proofs.Steps.{Feeding, feeding_start, feeding_next, fed, Lengths}
 use Rattle.blocks.proofs.feed.Statement.{statement}
 use Rattle.blocks.proofs.feed.Tie as tie
 
@@ -16,7 +16,7 @@ abbrev decreases-loop : tie.decreases-loop
 decreases-loop elems₀ shared₀ keys₀ out₀ line₀ block q₀ elems shared keys out line q = length block - q.at
 
 loop-holds : tie.Need-loop-init invariant-loop decreases-loop
-loop-holds c = (feeding-start _ _ _ _ _ _ refl c.before.before.before.before.before.before.requires, record { first = refl; second = refl; third = refl; fourth = refl; fifth = refl })
+loop-holds c = (feeding_start _ _ _ _ _ _ refl c.before.before.before.before.before.before.requires, record { first = refl; second = refl; third = refl; fourth = refl; fifth = refl })
 
 advance-requires : tie.Need-advance-requires invariant-loop decreases-loop
 advance-requires c κs = (c.before.before.before.before.before.before.before.loop.invariant.0.working, c.before.before.before.before.before.before.before.loop.invariant.0.within)
@@ -28,7 +28,7 @@ loop-again : tie.Need-loop-preserved invariant-loop decreases-loop
 loop-again c =
     let k = c.before.before.before.before.before.before.before.before.before.before.advance.auto in
     let i = c.before.before.before.before.before.before.before.before.before.before.before.before.before.before.before.before.before.before.loop.invariant in (
-      feeding-next _ _ _ _ _ _ i.0 c.before.before.before.before.before.before.before.before.before.before.advance.ensures,
+      feeding_next _ _ _ _ _ _ i.0 c.before.before.before.before.before.before.before.before.before.before.advance.ensures,
       record {
         first = omega (arith, k.1.0, i.1.first);
         second = omega (arith, k.1.1.0, i.1.second);

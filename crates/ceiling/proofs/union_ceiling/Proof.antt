@@ -5,9 +5,9 @@ use native.Mathlib.Omega.{arith}
 use mathlib.Core.Path.{sym, ap, ◌∙◌}
 use mathlib.Core.Bool.{false}
 use mathlib.Core.List.{[], ◌∷◌}
-use Rattle.rules.specs.Refusals.{saidAccepted}
-use Rattle.rules.proofs.laws.HighestBit.{highest-most}
-use Rattle.rules.proofs.laws.UnionCeiling.{answered, refused_none, refused-many}
+use Rattle.rules.specs.Refusals.{said_accepted}
+use Rattle.rules.proofs.Laws.HighestBit.{highest_most}
+use Rattle.rules.proofs.Laws.UnionCeiling.{answered, refused_none, refused-many}
 use Rattle.ceiling.proofs.union_ceiling.Statement.{statement}
 use Rattle.ceiling.proofs.union_ceiling.Tie as tie
 
@@ -24,13 +24,13 @@ mul-figure : tie.Need-overflow-mul-figure
 mul-figure c =
     let n = c.before.before.before.args.n in
     let few : n ≤ 65536 = omega (arith, c.before.if2.false) in
-    let low : c.highest-bit.result ≤ 16 = omega (arith, c.highest-bit.ensures, highest-most n (omega (arith, c.before.before.if1.false)) few) in
+    let low : c.highest-bit.result ≤ 16 = omega (arith, c.highest-bit.ensures, highest_most n (omega (arith, c.before.before.if1.false)) few) in
     record { fits = omega (arith, mul-le-mul few low) }
 
 returns-3 : tie.Need-returns-3
 returns-3 c =
     let n = c.before.before.before.args.n in
-    ap (λ (place : ℕ). saidAccepted (n * place ∷ []) false) c.highest-bit.ensures ∙ sym (answered n (omega (arith, c.before.before.if1.false)) (omega (arith, c.before.if2.false)))
+    ap (λ (place : ℕ). said_accepted (n * place ∷ []) false) c.highest-bit.ensures ∙ sym (answered n (omega (arith, c.before.before.if1.false)) (omega (arith, c.before.if2.false)))
 
 pub union-ceiling-spec : {M : Type 1} → statement M
 union-ceiling-spec = tie.close (tie.spec returns returns-2 highest-bit-requires mul-figure returns-3)

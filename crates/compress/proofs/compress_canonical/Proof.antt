@@ -2,9 +2,9 @@ use Rattle.rules.specs.Tables.{blank}
 use mathlib.Core.Path.{ap}
 use native.Mathlib.Omega.{arith}
 use Rattle.rules.specs.declared.Raised.{Raised}
-use Rattle.rules.proofs.laws.Soundness.{shaped_of}
+use Rattle.rules.proofs.Laws.Soundness.{shaped_of}
 use Rattle.compress.proofs.Final.{placeable}
-use Rattle.compress.proofs.Call.{compress-short, compressed-is}
+use Rattle.compress.proofs.Call.{compress_short, compressed-is}
 use borrow.Author.Rules.{rules}
 use Rattle.compress.proofs.compress_canonical.Statement.{statement}
 use Rattle.compress.proofs.compress_canonical.Tie as tie
@@ -13,7 +13,7 @@ mul-if1 : tie.Need-overflow-mul-if1
 mul-if1 c = omega (arith, (shaped_of _ c.before.before.before.before.requires.shape).elems.small)
 
 returns : tie.Need-returns
-returns c = compress-short _ _ _ c.if1.true
+returns c = compress_short _ _ _ c.if1.true
 
 renew-requires : tie.Need-renew-requires
 renew-requires c κs = c.before.before.before.before.before.requires.sound.generation.1

@@ -1,6 +1,6 @@
 use Prim.Native.Nat.{◌-◌}
 use native.Mathlib.Omega.{arith}
-use Rattle.copies.proofs.Parts.{Pasting, pasting-start, pasting-next, pasting-done}
+use Rattle.copies.proofs.Parts.{Pasting, pasting_start, pasting_next, pasting_done}
 use Rattle.copies.proofs.paste.Statement.{statement}
 use Rattle.copies.proofs.paste.Tie as tie
 
@@ -11,7 +11,7 @@ abbrev decreases-loop : tie.decreases-loop
 decreases-loop t₀ s n i₀ t i = n - i
 
 loop-holds : tie.Need-loop-init invariant-loop decreases-loop
-loop-holds c = pasting-start _ _ _ c.requires.0 c.requires.1
+loop-holds c = pasting_start _ _ _ c.requires.0 c.requires.1
 
 mul-t : tie.Need-overflow-mul-t invariant-loop decreases-loop
 mul-t c = let R = c.before.loop.invariant in omega (arith, R.source, c.loop-test.true)
@@ -32,13 +32,13 @@ loop-less : tie.Need-loop-smaller invariant-loop decreases-loop
 loop-less c = omega (arith, c.before.loop-test.true)
 
 loop-again : tie.Need-loop-preserved invariant-loop decreases-loop
-loop-again c = pasting-next _ _ _ _ _ c.before.before.loop.invariant c.before.loop-test.true
+loop-again c = pasting_next _ _ _ _ _ c.before.before.loop.invariant c.before.loop-test.true
 
 same_length : tie.Need-same-length invariant-loop decreases-loop
 same_length c = c.before.loop.invariant.pasted.long
 
 returns : tie.Need-returns invariant-loop decreases-loop
-returns c = pasting-done _ _ _ _ _ c.before.loop.invariant c.loop-test.false
+returns c = pasting_done _ _ _ _ _ c.before.loop.invariant c.loop-test.false
 
 pub paste-spec : {M : Type 1} → statement M
 paste-spec = tie.close (tie.spec invariant-loop decreases-loop loop-holds mul-t shared-slice-read-t mul-t-2 slice-write-t add-i loop-less loop-again same_length returns)

@@ -1,6 +1,6 @@
 -- The gate refuses, or the inner call's equation is what the door promises.
 use Rattle.gate.proofs.Gates.{opened, shut}
-use Rattle.rules.proofs.laws.Doors.{passed}
+use Rattle.rules.proofs.Laws.Doors.{passed}
 use Rattle.rules.specs.Tables.{state_of}
 use borrow.Author.Rules.{rules}
 use Rattle.door_runs.proofs.remove_element.Statement.{statement}

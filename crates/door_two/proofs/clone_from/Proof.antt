@@ -1,7 +1,7 @@
 use mathlib.Core.Path.{◌∙◌}
 use borrow.Author.Tests.{not-true, not-false}
 use Rattle.pools.proofs.Ask.{if_yes, if_no}
-use Rattle.rules.proofs.laws.TwoDoors.{both-pass, source-misshapen, target-misshapen, not_sound}
+use Rattle.rules.proofs.Laws.TwoDoors.{both_pass, source_misshapen, target_misshapen, not_sound}
 use Rattle.door_two.proofs.Refusing.{refusing}
 use borrow.Author.Rules.{rules}
 use Rattle.door_two.proofs.clone_from.Statement.{statement}
@@ -20,7 +20,7 @@ refused-requires : tie.Need-refused-requires
 refused-requires c κs = search rules
 
 returns : tie.Need-returns
-returns c = refusing _ _ _ _ c.refused.ensures (source-misshapen _ _ _ _ (c.before.before.is-shaped.ensures ∙ not-true _ c.before.if1.true))
+returns c = refusing _ _ _ _ c.refused.ensures (source_misshapen _ _ _ _ (c.before.before.is-shaped.ensures ∙ not-true _ c.before.if1.true))
 
 is-shaped-requires-2 : tie.Need-is-shaped-requires-2
 is-shaped-requires-2 c κs = search rules
@@ -35,7 +35,7 @@ same-length-2 : tie.Need-same-length-2
 same-length-2 c = search rules
 
 returns-2 : tie.Need-returns-2
-returns-2 c = refusing _ _ _ _ c.refused2.ensures (target-misshapen _ _ _ _ (c.before.before.before.before.before.before.is-shaped.ensures ∙ not-false _ c.before.before.before.before.before.if1.false) (c.before.before.is-shaped2.ensures ∙ not-true _ c.before.if2.true))
+returns-2 c = refusing _ _ _ _ c.refused2.ensures (target_misshapen _ _ _ _ (c.before.before.before.before.before.before.is-shaped.ensures ∙ not-false _ c.before.before.before.before.before.if1.false) (c.before.before.is-shaped2.ensures ∙ not-true _ c.before.if2.true))
 
 is-whole-requires : tie.Need-is-whole-requires
 is-whole-requires c κs = c.before.before.before.before.before.is-shaped.ensures ∙ not-false _ c.before.before.before.before.if1.false
@@ -62,7 +62,7 @@ same-length-6 : tie.Need-same-length-6
 same-length-6 c = search rules
 
 returns-4 : tie.Need-returns-4
-returns-4 c = both-pass _ _ _ _ _ (c.before.before.before.before.before.before.before.before.before.before.before.before.before.before.is-shaped.ensures ∙ not-false _ c.before.before.before.before.before.before.before.before.before.before.before.before.before.if1.false) (c.before.before.before.before.before.before.before.before.before.before.is-shaped2.ensures ∙ not-false _ c.before.before.before.before.before.before.before.before.before.if2.false) (if_yes c.before.before.before.before.before.before.before.before.is_whole.result (not-false _ c.before.before.before.before.before.before.before.if3.false) c.before.before.before.before.before.before.before.before.is_whole.ensures) c.before.before.before.before.clone-from.ensures
+returns-4 c = both_pass _ _ _ _ _ (c.before.before.before.before.before.before.before.before.before.before.before.before.before.before.is-shaped.ensures ∙ not-false _ c.before.before.before.before.before.before.before.before.before.before.before.before.before.if1.false) (c.before.before.before.before.before.before.before.before.before.before.is-shaped2.ensures ∙ not-false _ c.before.before.before.before.before.before.before.before.before.if2.false) (if_yes c.before.before.before.before.before.before.before.before.is_whole.result (not-false _ c.before.before.before.before.before.before.before.if3.false) c.before.before.before.before.before.before.before.before.is_whole.ensures) c.before.before.before.before.clone-from.ensures
 
 pub clone-from-spec : {M : Type 1} → statement M
 clone-from-spec =

@@ -1,7 +1,7 @@
 use mathlib.Core.Bool.{true}
 use borrow.Author.Tests.{not-true, not-false}
 use Rattle.pools.proofs.Ask.{if_yes, if_no}
-use Rattle.rules.proofs.laws.Tests.{both_is}
+use Rattle.rules.proofs.Laws.Tests.{both_is}
 use borrow.Author.Rules.{rules}
 use Rattle.door_two.proofs.is_whole.Statement.{statement}
 use Rattle.door_two.proofs.is_whole.Tie as tie

@@ -1,7 +1,7 @@
 use mathlib.Core.Path.{◌∙◌}
 use borrow.Author.Tests.{not-true, not-false}
 use Rattle.pools.proofs.Ask.{if_yes, if_no}
-use Rattle.rules.proofs.laws.TwoDoors.{both-pass, source-misshapen, target-misshapen, not_sound}
+use Rattle.rules.proofs.Laws.TwoDoors.{both_pass, source_misshapen, target_misshapen, not_sound}
 use Rattle.door_two.proofs.Refusing.{staying}
 use borrow.Author.Rules.{rules}
 use Rattle.door_two.proofs.transfer_canonical.Statement.{statement}
@@ -26,7 +26,7 @@ same-length-2 : tie.Need-same-length-2
 same-length-2 c = search rules
 
 returns : tie.Need-returns
-returns c = staying _ _ _ _ _ c.stays.ensures (source-misshapen _ _ _ _ (c.before.before.is-shaped.ensures ∙ not-true _ c.before.if1.true))
+returns c = staying _ _ _ _ _ c.stays.ensures (source_misshapen _ _ _ _ (c.before.before.is-shaped.ensures ∙ not-true _ c.before.if1.true))
 
 is-shaped-requires-2 : tie.Need-is-shaped-requires-2
 is-shaped-requires-2 c κs = search rules
@@ -47,7 +47,7 @@ same-length-6 : tie.Need-same-length-6
 same-length-6 c = search rules
 
 returns-2 : tie.Need-returns-2
-returns-2 c = staying _ _ _ _ _ c.stays2.ensures (target-misshapen _ _ _ _ (c.before.before.before.before.before.before.is-shaped.ensures ∙ not-false _ c.before.before.before.before.before.if1.false) (c.before.before.is-shaped2.ensures ∙ not-true _ c.before.if2.true))
+returns-2 c = staying _ _ _ _ _ c.stays2.ensures (target_misshapen _ _ _ _ (c.before.before.before.before.before.before.is-shaped.ensures ∙ not-false _ c.before.before.before.before.before.if1.false) (c.before.before.is-shaped2.ensures ∙ not-true _ c.before.if2.true))
 
 is-whole-requires : tie.Need-is-whole-requires
 is-whole-requires c κs = c.before.before.before.before.before.before.before.is-shaped.ensures ∙ not-false _ c.before.before.before.before.before.before.if1.false
@@ -107,7 +107,7 @@ same-length-18 : tie.Need-same-length-18
 same-length-18 c = search rules
 
 returns-5 : tie.Need-returns-5
-returns-5 c = both-pass _ _ _ _ _ (c.before.before.before.before.before.before.before.before.before.before.before.before.before.before.before.before.before.before.before.before.before.before.before.before.before.before.is-shaped.ensures ∙ not-false _ c.before.before.before.before.before.before.before.before.before.before.before.before.before.before.before.before.before.before.before.before.before.before.before.before.before.if1.false) (c.before.before.before.before.before.before.before.before.before.before.before.before.before.before.before.before.before.before.before.before.before.before.is-shaped2.ensures ∙ not-false _ c.before.before.before.before.before.before.before.before.before.before.before.before.before.before.before.before.before.before.before.before.before.if2.false) (if_yes c.before.before.before.before.before.before.before.before.before.before.before.before.before.before.before.before.before.before.is_whole.result (not-false _ c.before.before.before.before.before.before.before.before.before.before.before.before.before.before.before.before.before.if3.false) c.before.before.before.before.before.before.before.before.before.before.before.before.before.before.before.before.before.before.is_whole.ensures, if_yes c.before.before.before.before.before.before.before.before.before.before.before.before.before.before.is-whole2.result (not-false _ c.before.before.before.before.before.before.before.before.before.before.before.before.before.if4.false) c.before.before.before.before.before.before.before.before.before.before.before.before.before.before.is-whole2.ensures) c.before.before.before.before.before.before.before.before.transfer-canonical.ensures
+returns-5 c = both_pass _ _ _ _ _ (c.before.before.before.before.before.before.before.before.before.before.before.before.before.before.before.before.before.before.before.before.before.before.before.before.before.before.is-shaped.ensures ∙ not-false _ c.before.before.before.before.before.before.before.before.before.before.before.before.before.before.before.before.before.before.before.before.before.before.before.before.before.if1.false) (c.before.before.before.before.before.before.before.before.before.before.before.before.before.before.before.before.before.before.before.before.before.before.is-shaped2.ensures ∙ not-false _ c.before.before.before.before.before.before.before.before.before.before.before.before.before.before.before.before.before.before.before.before.before.if2.false) (if_yes c.before.before.before.before.before.before.before.before.before.before.before.before.before.before.before.before.before.before.is_whole.result (not-false _ c.before.before.before.before.before.before.before.before.before.before.before.before.before.before.before.before.before.if3.false) c.before.before.before.before.before.before.before.before.before.before.before.before.before.before.before.before.before.before.is_whole.ensures, if_yes c.before.before.before.before.before.before.before.before.before.before.before.before.before.before.is-whole2.result (not-false _ c.before.before.before.before.before.before.before.before.before.before.before.before.before.if4.false) c.before.before.before.before.before.before.before.before.before.before.before.before.before.before.is-whole2.ensures) c.before.before.before.before.before.before.before.before.transfer-canonical.ensures
 
 pub transfer-canonical-spec : {M : Type 1} → statement M
 transfer-canonical-spec =

@@ -1,8 +1,8 @@
 use mathlib.Core.Path.{◌∙◌, sym}
 use native.Mathlib.Omega.{arith}
 use Rattle.slots.proofs.Live.{on-live}
-use Rattle.rules.proofs.laws.Safe.{safe}
-use Rattle.drains.proofs.Draining.{drain-3, drain-7, drain-done}
+use Rattle.rules.proofs.Laws.Safe.{safe}
+use Rattle.drains.proofs.Draining.{drain_3, drain_7, drain-done}
 use borrow.Author.Rules.{rules}
 use Rattle.drains.proofs.drain.Statement.{statement}
 use Rattle.drains.proofs.drain.Tie as tie
@@ -20,7 +20,7 @@ same_length : tie.Need-same-length
 same_length c = search rules
 
 returns : tie.Need-returns
-returns c = drain-3 _ _ _ ((c.before.before.before.find.ensures _).same ∙ c.before.cause.given.1)
+returns c = drain_3 _ _ _ ((c.before.before.before.find.ensures _).same ∙ c.before.cause.given.1)
 
 size-at-requires : tie.Need-size-at-requires
 size-at-requires c κs = on-live _ _ _ _ c.before.before.before.before.before.before.before.before.before.before.requires (c.before.before.before.before.before.find.ensures _) c.before.before.before.x.given.1
@@ -35,7 +35,7 @@ same-length-3 : tie.Need-same-length-3
 same-length-3 c = search rules
 
 returns-2 : tie.Need-returns-2
-returns-2 c = drain-7 _ _ _ _ ((c.before.before.before.before.before.before.before.find.ensures _).same ∙ c.before.before.before.before.before.x.given.1) (rw (← c.before.size-at.ensures) c.if1.true)
+returns-2 c = drain_7 _ _ _ _ ((c.before.before.before.before.before.before.before.find.ensures _).same ∙ c.before.before.before.before.before.x.given.1) (rw (← c.before.size-at.ensures) c.if1.true)
 
 drain-run-requires : tie.Need-drain-run-requires
 drain-run-requires c κs = let l = on-live _ _ _ _ c.before.before.before.before.before.before.before.before.before.before.before.before.before.before.before.requires (c.before.before.before.before.before.before.before.before.before.before.find.ensures _) c.before.before.before.before.before.before.before.before.x.given.1 in

@@ -2,7 +2,7 @@ use borrow.Author.Rules.{rules}
 use mathlib.Core.Path.{refl}
 use native.Mathlib.Omega.{arith}
 use Rattle.rules.specs.Tables.{state_of}
-use Rattle.drains.proofs.Draining.{Draining, run_at, draining-next, draining-done}
+use Rattle.drains.proofs.Draining.{Draining, run_at, draining_next, draining_done}
 use Rattle.drains.proofs.drain_run.Statement.{statement}
 use Rattle.drains.proofs.drain_run.Tie as tie
 
@@ -33,7 +33,7 @@ loop-less : tie.Need-loop-smaller invariant-loop decreases-loop
 loop-less c = search rules
 
 loop-again : tie.Need-loop-preserved invariant-loop decreases-loop
-loop-again c = rw c.before.before.before.before.before.before.before.before.before.before.get.ensures (draining-next _ _ _ _ _ _ _ _ _ _ c.before.before.before.before.before.before.before.before.before.before.before.before.before.loop.invariant c.before.before.before.before.before.before.before.before.before.before.before.before.loop-test.true _ _ c.before.before.before.before.before.before.drain-frame.ensures.state c.before.before.before.before.before.before.drain-frame.ensures.lent)
+loop-again c = rw c.before.before.before.before.before.before.before.before.before.before.get.ensures (draining_next _ _ _ _ _ _ _ _ _ _ c.before.before.before.before.before.before.before.before.before.before.before.before.before.loop.invariant c.before.before.before.before.before.before.before.before.before.before.before.before.loop-test.true _ _ c.before.before.before.before.before.before.drain-frame.ensures.state c.before.before.before.before.before.before.drain-frame.ensures.lent)
 
 same_length : tie.Need-same-length invariant-loop decreases-loop
 same_length c = c.before.loop.invariant.still.elems-long
@@ -45,7 +45,7 @@ same-length-3 : tie.Need-same-length-3 invariant-loop decreases-loop
 same-length-3 c = c.before.loop.invariant.long
 
 returns : tie.Need-returns invariant-loop decreases-loop
-returns c = let d = draining-done _ _ _ _ _ _ _ _ _ _ c.before.loop.invariant c.loop-test.false in record { state = d.0; lent = d.1 }
+returns c = let d = draining_done _ _ _ _ _ _ _ _ _ _ c.before.loop.invariant c.loop-test.false in record { state = d.0; lent = d.1 }
 
 pub drain-run-spec : {M : Type 1} → statement M
 drain-run-spec =

@@ -1,6 +1,6 @@
 use mathlib.Core.Path.{sym}
 use Rattle.rules.specs.Notation.{if◌then◌else◌}
-use Rattle.drains.proofs.Draining.{record-puts}
+use Rattle.drains.proofs.Draining.{record_puts}
 use borrow.Author.Rules.{rules}
 use Rattle.drains.proofs.write_record.Statement.{statement}
 use Rattle.drains.proofs.write_record.Tie as tie
@@ -36,7 +36,7 @@ same_length : tie.Need-same-length
 same_length c = search rules
 
 returns : tie.Need-returns
-returns c = rw (c.before.before.put6.ensures, c.before.before.before.before.before.before.before.put5.ensures, c.before.before.before.before.before.before.before.before.before.before.before.before.put4.ensures, c.before.before.before.before.before.before.before.before.before.before.before.before.before.before.before.before.before.put3.ensures, c.before.before.before.before.before.before.before.before.before.before.before.before.before.before.before.before.before.before.before.before.before.put2.ensures, c.before.before.before.before.before.before.before.before.before.before.before.before.before.before.before.before.before.before.before.before.before.before.before.before.before.put.ensures, c.before.before.before.over-mark.ensures, c.before.before.before.before.before.before.before.before.last-value.ensures, c.before.before.before.before.before.before.before.before.before.before.before.before.before.last-mark.ensures) (sym (record-puts _ _ _ _ _ (if c.before.before.before.before.before.before.before.before.before.before.before.before.before.before.before.before.before.before.before.before.before.before.before.before.before.before.before.before.args.over then 1 else 0) c.before.before.before.before.before.before.before.before.before.before.before.before.before.before.before.before.before.before.before.before.before.before.before.before.before.before.before.before.args.rest c.before.before.before.before.before.before.before.before.before.before.before.before.before.before.before.before.before.before.before.before.before.before.before.before.before.before.before.before.requires.some))
+returns c = rw (c.before.before.put6.ensures, c.before.before.before.before.before.before.before.put5.ensures, c.before.before.before.before.before.before.before.before.before.before.before.before.put4.ensures, c.before.before.before.before.before.before.before.before.before.before.before.before.before.before.before.before.before.put3.ensures, c.before.before.before.before.before.before.before.before.before.before.before.before.before.before.before.before.before.before.before.before.before.put2.ensures, c.before.before.before.before.before.before.before.before.before.before.before.before.before.before.before.before.before.before.before.before.before.before.before.before.before.put.ensures, c.before.before.before.over-mark.ensures, c.before.before.before.before.before.before.before.before.last-value.ensures, c.before.before.before.before.before.before.before.before.before.before.before.before.before.last-mark.ensures) (sym (record_puts _ _ _ _ _ (if c.before.before.before.before.before.before.before.before.before.before.before.before.before.before.before.before.before.before.before.before.before.before.before.before.before.before.before.before.args.over then 1 else 0) c.before.before.before.before.before.before.before.before.before.before.before.before.before.before.before.before.before.before.before.before.before.before.before.before.before.before.before.before.args.rest c.before.before.before.before.before.before.before.before.before.before.before.before.before.before.before.before.before.before.before.before.before.before.before.before.before.before.before.before.requires.some))
 
 pub write-record-spec : {M : Type 1} → statement M
 write-record-spec =

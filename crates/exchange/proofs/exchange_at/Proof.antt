@@ -1,4 +1,4 @@
-use Rattle.exchange.specs.Answered.{exchangeAt}
+use Rattle.exchange.specs.Answered.{exchange_at}
 use mathlib.Core.Path.{◌∙◌}
 use borrow.Author.Rules.{rules}
 use Rattle.exchange.proofs.exchange_at.Statement.{statement}
@@ -29,14 +29,14 @@ same_length : tie.Need-same-length
 same_length c = search rules
 
 returns : tie.Need-returns
-unfolding exchangeAt
+unfolding exchange_at
 returns c = rw (← c.before.before.before.before.before.before.before.before.before.before.get.ensures, ← c.before.before.before.before.before.before.before.before.before.get2.ensures, ← c.before.before.before.before.before.before.before.before.get3.ensures, ← c.before.before.before.before.before.before.before.get4.ensures, c.before.before.before.before.before.before.all-differ.ensures ∙ c.before.before.before.before.before.if1.true, c.before.before.before.store.ensures.0, c.before.before.before.store.ensures.1, c.forget.ensures)
 
 refused-requires : tie.Need-refused-requires
 refused-requires c κs = search rules
 
 returns-2 : tie.Need-returns-2
-unfolding exchangeAt
+unfolding exchange_at
 returns-2 c = rw (← c.before.before.before.before.before.before.get.ensures, ← c.before.before.before.before.before.get2.ensures, ← c.before.before.before.before.get3.ensures, ← c.before.before.before.get4.ensures, c.before.before.all-differ.ensures ∙ c.before.if1.false, c.refused.ensures.0, c.refused.ensures.1)
 
 pub exchange-at-spec : {M : Type 1} → statement M

@@ -1,7 +1,7 @@
 use Rattle.exchange.proofs.Fours.{classed}
 use Rattle.slots.proofs.Live.{on-live}
-use Rattle.exchange.specs.Answered.{exchangeAt}
-use Rattle.rules.proofs.laws.Safe.{safe}
+use Rattle.exchange.specs.Answered.{exchange_at}
+use Rattle.rules.proofs.Laws.Safe.{safe}
 use Rattle.rules.specs.Exchange.{exchange}
 use mathlib.Core.Path.{◌∙◌}
 use borrow.Author.Rules.{rules}
@@ -85,7 +85,7 @@ same_length : tie.Need-same-length
 same_length c = search rules
 
 returns-5 : tie.Need-returns-5
-unfolding exchange exchangeAt
+unfolding exchange exchange_at
 returns-5 c = let s = c.before.before.before.before.before.before.before.before.before.before.before.before.before.before.before.before.before.before.before.before.before.before.args.shared.now in
     rw ((c.before.before.before.before.before.before.before.before.before.before.before.before.before.before.before.before.before.before.before.find.ensures s).same ∙ c.before.before.before.before.before.before.before.before.before.before.before.before.before.before.before.before.before.w.given.1, (c.before.before.before.before.before.before.before.before.before.before.before.before.before.before.before.find2.ensures s).same ∙ c.before.before.before.before.before.before.before.before.before.before.before.before.before.x.given.1, (c.before.before.before.before.before.before.before.before.before.before.before.find3.ensures s).same ∙ c.before.before.before.before.before.before.before.before.before.y.given.1, (c.before.before.before.before.before.before.before.find4.ensures s).same ∙ c.before.before.before.before.before.z.given.1) c.before.before.exchange-at.ensures
 

@@ -1,4 +1,4 @@
-use Rattle.exchange.proofs.Fours.{valued-four}
+use Rattle.exchange.proofs.Fours.{valued_four}
 use lib.ListN.{length}
 use mathlib.Core.Path.{◌≡◌}
 use borrow.Author.Rules.{rules}
@@ -47,7 +47,7 @@ same_length c = search rules
 returns : tie.Need-returns
 returns c = let g = c.before.before.before.before.before.before.before.before.before.before.before.before.before.before.before.before.before.before.before.before.before.before.before.before.before.well-formed in
     let n : length c.before.before.before.before.before.before.before.before.before.before.before.before.before.before.before.before.before.before.before.before.before.before.before.before.before.args.t6 ≡ 4 = search rules in
-    (rw (c.before.before.before.before.before.before.before.before.before.before.before.before.before.before.before.before.get4.ensures, c.before.before.before.before.before.before.before.before.before.before.before.before.before.before.before.before.before.before.get3.ensures, c.before.before.before.before.before.before.before.before.before.before.before.before.before.before.before.before.before.before.before.before.get2.ensures, c.before.before.before.before.before.before.before.before.before.before.before.before.before.before.before.before.before.before.before.before.before.before.get.ensures), rw (c.before.before.put4.ensures, c.before.before.before.before.before.before.put3.ensures, c.before.before.before.before.before.before.before.before.before.before.put2.ensures, c.before.before.before.before.before.before.before.before.before.before.before.before.before.before.put.ensures) (valued-four _ _ _ _ _ _ n))
+    (rw (c.before.before.before.before.before.before.before.before.before.before.before.before.before.before.before.before.get4.ensures, c.before.before.before.before.before.before.before.before.before.before.before.before.before.before.before.before.before.before.get3.ensures, c.before.before.before.before.before.before.before.before.before.before.before.before.before.before.before.before.before.before.before.before.get2.ensures, c.before.before.before.before.before.before.before.before.before.before.before.before.before.before.before.before.before.before.before.before.before.before.get.ensures), rw (c.before.before.put4.ensures, c.before.before.before.before.before.before.put3.ensures, c.before.before.before.before.before.before.before.before.before.before.put2.ensures, c.before.before.before.before.before.before.before.before.before.before.before.before.before.before.put.ensures) (valued_four _ _ _ _ _ _ n))
 
 pub store_spec : {M : Type 1} → statement M
 store_spec =

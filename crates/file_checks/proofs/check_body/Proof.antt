@@ -1,6 +1,6 @@
 use Prim.Native.Nat.{ℕ, ◌*◌, ◌+◌, ◌-◌, ◌≤◌}
 use native.Mathlib.Omega.{arith}
-use Rattle.file_checks.proofs.Bodies.{body-small, body-over, body-none, body-wrong, body-right, nonzero}
+use Rattle.file_checks.proofs.Bodies.{body-small, body-over, body-none, body_wrong, body_right, nonzero}
 use borrow.Author.Rules.{rules}
 use Rattle.file_checks.proofs.check_body.Statement.{statement}
 use Rattle.file_checks.proofs.check_body.Tie as tie
@@ -50,10 +50,10 @@ add-t12 : tie.Need-overflow-add-t12
 add-t12 c = search rules
 
 returns-4 : tie.Need-returns-4
-returns-4 c = body-right 1 c.before.before.before.before.before.before.before.before.args.at c.before.before.before.before.before.before.before.before.args.b.now c.before.before.before.before.before.before.before.before.requires c.before.before.before.before.get4.result c.before.before.before.before.before.get8.result c.before.before.before.before.get4.ensures.0 c.before.before.before.before.before.get8.ensures c.before.before.before.before.before.before.if1.false c.before.before.if3.false c.before.sizes.result c.before.sizes.ensures c.if4.true (nonzero c.before.before.before.before.get4.result c.before.before.before.if2.false)
+returns-4 c = body_right 1 c.before.before.before.before.before.before.before.before.args.at c.before.before.before.before.before.before.before.before.args.b.now c.before.before.before.before.before.before.before.before.requires c.before.before.before.before.get4.result c.before.before.before.before.before.get8.result c.before.before.before.before.get4.ensures.0 c.before.before.before.before.before.get8.ensures c.before.before.before.before.before.before.if1.false c.before.before.if3.false c.before.sizes.result c.before.sizes.ensures c.if4.true (nonzero c.before.before.before.before.get4.result c.before.before.before.if2.false)
 
 returns-5 : tie.Need-returns-5
-returns-5 c = body-wrong 1 c.before.before.before.before.before.before.before.before.args.at c.before.before.before.before.before.before.before.before.args.b.now c.before.before.before.before.before.before.before.before.requires c.before.before.before.before.get4.result c.before.before.before.before.before.get8.result c.before.before.before.before.get4.ensures.0 c.before.before.before.before.before.get8.ensures c.before.before.before.before.before.before.if1.false c.before.before.if3.false c.before.sizes.result c.before.sizes.ensures c.if4.false (nonzero c.before.before.before.before.get4.result c.before.before.before.if2.false)
+returns-5 c = body_wrong 1 c.before.before.before.before.before.before.before.before.args.at c.before.before.before.before.before.before.before.before.args.b.now c.before.before.before.before.before.before.before.before.requires c.before.before.before.before.get4.result c.before.before.before.before.before.get8.result c.before.before.before.before.get4.ensures.0 c.before.before.before.before.before.get8.ensures c.before.before.before.before.before.before.if1.false c.before.before.if3.false c.before.sizes.result c.before.sizes.ensures c.if4.false (nonzero c.before.before.before.before.get4.result c.before.before.before.if2.false)
 
 pub check-body-spec : {M : Type 1} → statement M
 check-body-spec =

@@ -2,7 +2,7 @@ use borrow.Author.Rules.{rules}
 use native.Mathlib.Omega.{arith}
 use Prim.Native.Nat.{ℕ, ◌+◌, ◌*◌, ◌≤◌}
 use mathlib.Core.Path.{◌≡◌, sym, ◌∙◌}
-use Rattle.file_checks.proofs.Loop.{Passed, too_many, passed_first, passed-departs, passed-next, passed-whole, passed-more}
+use Rattle.file_checks.proofs.Loop.{Passed, too_many, passed_first, passed-departs, passed-next, passed-whole, passed_more}
 use Rattle.file_checks.proofs.check_runs.Statement.{statement}
 use Rattle.file_checks.proofs.check_runs.Tie as tie
 use Rattle.file_checks.proofs.check_runs.Reads as reads
@@ -68,7 +68,7 @@ returns-3 : tie.Need-returns-3 invariant-loop decreases-loop
 returns-3 c = passed-whole c.before.before.loop.invariant c.before.loop-test.false c.if2.true
 
 returns-4 : tie.Need-returns-4 invariant-loop decreases-loop
-returns-4 c = passed-more c.before.before.loop.invariant c.before.loop-test.false c.if2.false
+returns-4 c = passed_more c.before.before.loop.invariant c.before.loop-test.false c.if2.false
 
 pub check-runs-spec : {M : Type 1} → statement M
 check-runs-spec =

@@ -1,5 +1,5 @@
 use native.Mathlib.Omega.{arith}
-use Rattle.file_reads.proofs.Call.{room, fillable, elems-reach, shared-reach, built}
+use Rattle.file_reads.proofs.Call.{room, fillable, elems_reach, shared_reach, built}
 use borrow.Author.Rules.{rules}
 use Rattle.file_reads.proofs.build.Statement.{statement}
 use Rattle.file_reads.proofs.build.Tie as tie
@@ -19,7 +19,7 @@ mul-zero-2 : tie.Need-overflow-mul-zero-2
 mul-zero-2 c = record { fits = omega (arith, (room _ _ _ _ c.before.before.before.before.before.before.before.before.before.before.before.requires).elems-most) }
 
 zero-requires : tie.Need-zero-requires
-zero-requires c κs = ((room _ _ _ _ c.before.before.before.before.before.before.before.before.before.before.before.requires).elems, elems-reach _ _ _ _ c.before.before.before.before.before.before.before.before.before.before.before.requires _ c.before.before.before.before.before.fill-runs.ensures.0)
+zero-requires c κs = ((room _ _ _ _ c.before.before.before.before.before.before.before.before.before.before.before.requires).elems, elems_reach _ _ _ _ c.before.before.before.before.before.before.before.before.before.before.before.requires _ c.before.before.before.before.before.fill-runs.ensures.0)
 
 mul-zero-3 : tie.Need-overflow-mul-zero-3
 mul-zero-3 c = search rules
@@ -28,7 +28,7 @@ mul-zero-4 : tie.Need-overflow-mul-zero-4
 mul-zero-4 c = record { fits = omega (arith, (room _ _ _ _ c.before.before.before.before.before.before.before.before.before.before.before.before.before.before.before.requires).shared-most) }
 
 zero-requires-2 : tie.Need-zero-requires-2
-zero-requires-2 c κs = ((room _ _ _ _ c.before.before.before.before.before.before.before.before.before.before.before.before.before.before.before.requires).shared, shared-reach _ _ _ _ c.before.before.before.before.before.before.before.before.before.before.before.before.before.before.before.requires _ c.before.before.before.before.before.before.before.before.before.fill-runs.ensures.1)
+zero-requires-2 c κs = ((room _ _ _ _ c.before.before.before.before.before.before.before.before.before.before.before.before.before.before.before.requires).shared, shared_reach _ _ _ _ c.before.before.before.before.before.before.before.before.before.before.before.before.before.before.before.requires _ c.before.before.before.before.before.before.before.before.before.fill-runs.ensures.1)
 
 packed-requires : tie.Need-packed-requires
 packed-requires c κs = search rules

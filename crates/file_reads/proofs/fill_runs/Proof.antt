@@ -2,7 +2,7 @@ use native.Mathlib.Omega.{arith}
 use mathlib.Core.Path.{◌∙◌}
 use lib.ListN.{length}
 use Prim.Native.Nat.{◌-◌, ◌<◌}
-use Rattle.file_reads.proofs.Reading.{Left, reading-first, comes, run_room, run-slots, run-rows, run-header, run-few, reading-next, reading-last}
+use Rattle.file_reads.proofs.Reading.{Left, reading_first, comes, run_room, run-slots, run_rows, run-header, run-few, reading_next, reading_last}
 use Rattle.file_reads.specs.Fills.{held}
 use Rattle.file_reads.proofs.fill_runs.Statement.{statement}
 use Rattle.file_reads.proofs.fill_runs.Tie as tie
@@ -26,7 +26,7 @@ add_at : tie.Need-overflow-add-at invariant-loop decreases-loop
 add_at c = record { fits = omega (arith, c.before.before.before.requires.0.runs, c.before.before.before.requires.1) }
 
 loop-holds : tie.Need-loop-init invariant-loop decreases-loop
-loop-holds c = reading-first _ _ _ _ c.before.before.before.requires.0 c.before.before.before.requires.1
+loop-holds c = reading_first _ _ _ _ c.before.before.before.requires.0 c.before.before.before.requires.1
 
 get8-requires : tie.Need-get8-requires invariant-loop decreases-loop
 get8-requires c κs = let C = comes c.before.loop.invariant (omega (arith, c.loop-test.true, c.before.before.before.before.before.requires.1)) in omega (arith, run_room C)
@@ -53,7 +53,7 @@ add-fill-frames : tie.Need-overflow-add-fill-frames invariant-loop decreases-loo
 add-fill-frames c = let C = comes c.before.before.before.before.before.before.before.before.loop.invariant (omega (arith, c.before.before.before.before.before.before.before.loop-test.true, c.before.before.before.before.before.before.before.before.before.before.before.before.requires.1)) in record { fits = omega (arith, run_room C) }
 
 fill-frames-requires : tie.Need-fill-frames-requires invariant-loop decreases-loop
-fill-frames-requires c κs = let C = comes c.before.before.before.before.before.before.before.before.before.loop.invariant (omega (arith, c.before.before.before.before.before.before.before.before.loop-test.true, c.before.before.before.before.before.before.before.before.before.before.before.before.before.requires.1)) in let n = c.before.before.before.before.before.get4.ensures.0 ∙ C.reading.standing.0.count in (omega (arith, run_room C, n), omega (arith, run-slots C, n), omega (arith, run-rows C, n))
+fill-frames-requires c κs = let C = comes c.before.before.before.before.before.before.before.before.before.loop.invariant (omega (arith, c.before.before.before.before.before.before.before.before.loop-test.true, c.before.before.before.before.before.before.before.before.before.before.before.before.before.requires.1)) in let n = c.before.before.before.before.before.get4.ensures.0 ∙ C.reading.standing.0.count in (omega (arith, run_room C, n), omega (arith, run-slots C, n), omega (arith, run_rows C, n))
 
 add-at-2 : tie.Need-overflow-add-at-2 invariant-loop decreases-loop
 add-at-2 c = let C = comes c.before.before.before.before.before.before.before.before.before.before.before.before.loop.invariant (omega (arith, c.before.before.before.before.before.before.before.before.before.before.before.loop-test.true, c.before.before.before.before.before.before.before.before.before.before.before.before.before.before.before.before.requires.1)) in record { fits = omega (arith, run_room C) }
@@ -71,7 +71,7 @@ loop-less : tie.Need-loop-smaller invariant-loop decreases-loop
 loop-less c = omega (arith, c.before.before.before.before.before.before.before.before.before.before.before.loop-test.true)
 
 loop-again : tie.Need-loop-preserved invariant-loop decreases-loop
-loop-again c = reading-next (comes c.before.before.before.before.before.before.before.before.before.before.before.before.loop.invariant (omega (arith, c.before.before.before.before.before.before.before.before.before.before.before.loop-test.true, c.before.before.before.before.before.before.before.before.before.before.before.before.before.before.before.before.requires.1))) _ _ _ _ _ c.before.before.before.before.before.before.before.before.before.before.get8.ensures c.before.before.before.before.before.before.before.before.before.get82.ensures c.before.before.before.before.before.before.before.before.get4.ensures.0 c.before.before.before.before.before.before.write-header.ensures c.before.before.fill-frames.ensures
+loop-again c = reading_next (comes c.before.before.before.before.before.before.before.before.before.before.before.before.loop.invariant (omega (arith, c.before.before.before.before.before.before.before.before.before.before.before.loop-test.true, c.before.before.before.before.before.before.before.before.before.before.before.before.before.before.before.before.requires.1))) _ _ _ _ _ c.before.before.before.before.before.before.before.before.before.before.get8.ensures c.before.before.before.before.before.before.before.before.before.get82.ensures c.before.before.before.before.before.before.before.before.get4.ensures.0 c.before.before.before.before.before.before.write-header.ensures c.before.before.fill-frames.ensures
 
 same_length : tie.Need-same-length invariant-loop decreases-loop
 same_length c = c.before.loop.invariant.reading.elems-long
@@ -80,7 +80,7 @@ same-length-2 : tie.Need-same-length-2 invariant-loop decreases-loop
 same-length-2 c = c.before.loop.invariant.reading.shared_long
 
 returns : tie.Need-returns invariant-loop decreases-loop
-returns c = reading-last c.before.loop.invariant (omega (arith, c.loop-test.false, c.before.before.before.before.before.requires.1))
+returns c = reading_last c.before.loop.invariant (omega (arith, c.loop-test.false, c.before.before.before.before.before.requires.1))
 
 pub fill-runs-spec : {M : Type 1} → statement M
 fill-runs-spec =

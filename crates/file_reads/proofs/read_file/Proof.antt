@@ -1,7 +1,7 @@
 use borrow.Author.Tests.{not-true, not-false}
 use native.Mathlib.Omega.{arith}
 use mathlib.Core.Path.{sym, ◌∙◌}
-use Rattle.file_reads.proofs.Call.{read-1, read_short, read-11, read-9, read-6, read-5, buildable, read_done}
+use Rattle.file_reads.proofs.Call.{read_1, read_short, read_11, read_9, read_6, read_5, buildable, read_done}
 use borrow.Author.Rules.{rules}
 use Rattle.file_reads.proofs.read_file.Statement.{statement}
 use Rattle.file_reads.proofs.read_file.Tie as tie
@@ -26,7 +26,7 @@ same-length-2 : tie.Need-same-length-2
 same-length-2 c = search rules
 
 returns : tie.Need-returns
-returns c = read-1 _ c.before.before.before.before.before.before.before.before.args.file.now (c.before.before.is-shaped.ensures ∙ not-true _ c.before.if1.true) _ c.refused.ensures
+returns c = read_1 _ c.before.before.before.before.before.before.before.before.args.file.now (c.before.before.is-shaped.ensures ∙ not-true _ c.before.if1.true) _ c.refused.ensures
 
 refused-requires-2 : tie.Need-refused-requires-2
 refused-requires-2 c κs = search rules
@@ -53,7 +53,7 @@ same-length-6 : tie.Need-same-length-6
 same-length-6 c = search rules
 
 returns-3 : tie.Need-returns-3
-returns-3 c = read-11 _ c.before.before.before.before.before.before.before.before.before.before.before.args.file.now (c.before.before.before.before.before.is-shaped.ensures ∙ not-false _ c.before.before.before.before.if1.false) (omega (arith, c.before.before.before.if2.false)) (λ e. c.before.if3.true (c.before.before.get4.ensures.0 ∙ e)) _ c.refused3.ensures
+returns-3 c = read_11 _ c.before.before.before.before.before.before.before.before.before.before.before.args.file.now (c.before.before.before.before.before.is-shaped.ensures ∙ not-false _ c.before.before.before.before.if1.false) (omega (arith, c.before.before.before.if2.false)) (λ e. c.before.if3.true (c.before.before.get4.ensures.0 ∙ e)) _ c.refused3.ensures
 
 check-runs-requires : tie.Need-check-runs-requires
 check-runs-requires c κs = search rules
@@ -74,7 +74,7 @@ same-length-8 : tie.Need-same-length-8
 same-length-8 c = search rules
 
 returns-4 : tie.Need-returns-4
-returns-4 c = read-9 _ c.before.before.before.before.before.before.before.before.before.before.before.before.before.before.args.file.now (c.before.before.before.before.before.before.before.before.is-shaped.ensures ∙ not-false _ c.before.before.before.before.before.before.before.if1.false) (omega (arith, c.before.before.before.before.before.before.if2.false)) (sym c.before.before.before.before.before.get4.ensures.0 ∙ c.before.before.before.before.if3.false) (sym c.before.enum_told.given.1 ∙ c.before.before.before.check-runs.ensures) _ c.refused4.ensures
+returns-4 c = read_9 _ c.before.before.before.before.before.before.before.before.before.before.before.before.before.before.args.file.now (c.before.before.before.before.before.before.before.before.is-shaped.ensures ∙ not-false _ c.before.before.before.before.before.before.before.if1.false) (omega (arith, c.before.before.before.before.before.before.if2.false)) (sym c.before.before.before.before.before.get4.ensures.0 ∙ c.before.before.before.before.if3.false) (sym c.before.enum_told.given.1 ∙ c.before.before.before.check-runs.ensures) _ c.refused4.ensures
 
 refused-requires-5 : tie.Need-refused-requires-5
 refused-requires-5 c κs = search rules
@@ -86,7 +86,7 @@ same-length-10 : tie.Need-same-length-10
 same-length-10 c = search rules
 
 returns-5 : tie.Need-returns-5
-returns-5 c = read-6 _ c.before.before.before.before.before.before.before.before.before.before.before.before.before.before.before.before.before.args.file.now (c.before.before.before.before.before.before.before.before.before.before.before.is-shaped.ensures ∙ not-false _ c.before.before.before.before.before.before.before.before.before.before.if1.false) (omega (arith, c.before.before.before.before.before.before.before.before.before.if2.false)) (sym c.before.before.before.before.before.before.before.before.get4.ensures.0 ∙ c.before.before.before.before.before.before.before.if3.false) _ _ (sym c.before.before.before.before.runs.given.1 ∙ c.before.before.before.before.before.before.check-runs.ensures) c.before.if4.true _ c.refused5.ensures
+returns-5 c = read_6 _ c.before.before.before.before.before.before.before.before.before.before.before.before.before.before.before.before.before.args.file.now (c.before.before.before.before.before.before.before.before.before.before.before.is-shaped.ensures ∙ not-false _ c.before.before.before.before.before.before.before.before.before.before.if1.false) (omega (arith, c.before.before.before.before.before.before.before.before.before.if2.false)) (sym c.before.before.before.before.before.before.before.before.get4.ensures.0 ∙ c.before.before.before.before.before.before.before.if3.false) _ _ (sym c.before.before.before.before.runs.given.1 ∙ c.before.before.before.before.before.before.check-runs.ensures) c.before.if4.true _ c.refused5.ensures
 
 refused-requires-6 : tie.Need-refused-requires-6
 refused-requires-6 c κs = search rules
@@ -98,7 +98,7 @@ same-length-12 : tie.Need-same-length-12
 same-length-12 c = search rules
 
 returns-6 : tie.Need-returns-6
-returns-6 c = read-5 _ c.before.before.before.before.before.before.before.before.before.before.before.before.before.before.before.before.before.before.before.args.file.now (c.before.before.before.before.before.before.before.before.before.before.before.before.before.is-shaped.ensures ∙ not-false _ c.before.before.before.before.before.before.before.before.before.before.before.before.if1.false) (omega (arith, c.before.before.before.before.before.before.before.before.before.before.before.if2.false)) (sym c.before.before.before.before.before.before.before.before.before.before.get4.ensures.0 ∙ c.before.before.before.before.before.before.before.before.before.if3.false) _ _ (sym c.before.before.before.before.before.before.runs.given.1 ∙ c.before.before.before.before.before.before.before.before.check-runs.ensures) (omega (arith, c.before.before.before.if4.false)) c.before.if5.true _ c.refused6.ensures
+returns-6 c = read_5 _ c.before.before.before.before.before.before.before.before.before.before.before.before.before.before.before.before.before.before.before.args.file.now (c.before.before.before.before.before.before.before.before.before.before.before.before.before.is-shaped.ensures ∙ not-false _ c.before.before.before.before.before.before.before.before.before.before.before.before.if1.false) (omega (arith, c.before.before.before.before.before.before.before.before.before.before.before.if2.false)) (sym c.before.before.before.before.before.before.before.before.before.before.get4.ensures.0 ∙ c.before.before.before.before.before.before.before.before.before.if3.false) _ _ (sym c.before.before.before.before.before.before.runs.given.1 ∙ c.before.before.before.before.before.before.before.before.check-runs.ensures) (omega (arith, c.before.before.before.if4.false)) c.before.if5.true _ c.refused6.ensures
 
 build-requires : tie.Need-build-requires
 build-requires c κs = buildable _ c.before.before.before.before.before.before.before.before.before.before.before.before.before.before.before.before.before.before.before.before.args.file.now (c.before.before.before.before.before.before.before.before.before.before.before.before.before.before.is-shaped.ensures ∙ not-false _ c.before.before.before.before.before.before.before.before.before.before.before.before.before.if1.false) (omega (arith, c.before.before.before.before.before.before.before.before.before.before.before.before.if2.false)) (sym c.before.before.before.before.before.before.before.before.before.before.before.get4.ensures.0 ∙ c.before.before.before.before.before.before.before.before.before.before.if3.false) _ _ (sym c.before.before.before.before.before.before.before.runs.given.1 ∙ c.before.before.before.before.before.before.before.before.before.check-runs.ensures) (omega (arith, c.before.before.before.before.if4.false)) (omega (arith, c.before.before.if5.false))

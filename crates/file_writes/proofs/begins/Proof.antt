@@ -1,7 +1,7 @@
 use mathlib.Core.Path.{◌∙◌}
 use Prim.Native.Nat.{◌+◌}
 use native.Mathlib.Omega.{arith}
-use Rattle.rules.proofs.laws.Safe.{safe}
+use Rattle.rules.proofs.Laws.Safe.{safe}
 use Rattle.file_writes.proofs.Scan.{begins-free, begins-seen, begins-first, class-some, class-room}
 use borrow.Author.Rules.{rules}
 use Rattle.file_writes.proofs.begins.Statement.{statement}

@@ -1,4 +1,4 @@
-use Rattle.rules.proofs.laws.Safe.{safe}
+use Rattle.rules.proofs.Laws.Safe.{safe}
 use native.Mathlib.Omega.{arith}
 use Rattle.file_writes.proofs.Runs.{frame-cell, header-cell, count_small, body_end, body-room, body-written, run-walk}
 use borrow.Author.Rules.{rules}
@@ -21,7 +21,7 @@ get-requires-3 : tie.Need-get-requires-3
 get-requires-3 c κs = header-cell _ c.before.before.before.before.before.requires.0 _ c.before.before.before.before.before.requires.1 1 _ (omega arith) c.before.get.ensures
 
 get-requires-4 : tie.Need-get-requires-4
-get-requires-4 c κs = let s = safe _ c.before.before.before.before.before.before.requires.0 in let f = s.frames _ c.before.before.before.before.before.before.requires.1 in record { some = omega (arith, f.class-some, c.before.before.get.ensures); inside = omega (arith, f.class-in, s.shared.pool.within, s.shared.pool.some, s.shared.long, c.before.before.get.ensures); field = omega arith }
+get-requires-4 c κs = let s = safe _ c.before.before.before.before.before.before.requires.0 in let f = s.frames _ c.before.before.before.before.before.before.requires.1 in record { some = omega (arith, f.class-some, c.before.before.get.ensures); inside = omega (arith, f.class_in, s.shared.pool.within, s.shared.pool.some, s.shared.long, c.before.before.get.ensures); field = omega arith }
 
 put8-requires : tie.Need-put8-requires
 put8-requires c κs = search rules

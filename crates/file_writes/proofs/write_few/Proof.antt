@@ -1,5 +1,5 @@
 use native.Mathlib.Omega.{arith}
-use Rattle.file_writes.proofs.Whole.{fits-still, both-filled}
+use Rattle.file_writes.proofs.Whole.{fits-still, both_filled}
 use Rattle.file_writes.proofs.Scan.{none-met}
 use borrow.Author.Rules.{rules}
 use Rattle.file_writes.proofs.write_few.Statement.{statement}
@@ -25,7 +25,7 @@ same_length : tie.Need-same-length
 same_length c = search rules
 
 returns : tie.Need-returns
-returns c = both-filled _ _ _ _ _ c.before.before.before.before.before.before.before.before.before.write-contents.ensures c.before.before.before.write-bodies.ensures
+returns c = both_filled _ _ _ _ _ c.before.before.before.before.before.before.before.before.before.write-contents.ensures c.before.before.before.write-bodies.ensures
 
 pub write-few-spec : {M : Type 1} → statement M
 write-few-spec =

@@ -1,6 +1,6 @@
 use mathlib.Core.Path.{refl, ◌∙◌}
 use native.Mathlib.Omega.{arith}
-use Rattle.file_writes.proofs.Whole.{runs-small, frames_small, all_fit, fits-still, file-written, write-7, write_done}
+use Rattle.file_writes.proofs.Whole.{runs-small, frames_small, all_fit, fits-still, file-written, write_7, write_done}
 use borrow.Author.Rules.{rules}
 use Rattle.file_writes.proofs.write_file.Statement.{statement}
 use Rattle.file_writes.proofs.write_file.Tie as tie
@@ -22,7 +22,7 @@ add-long-2 : tie.Need-overflow-add-long-2
 add-long-2 c = record { fits = omega (arith, runs-small _ c.before.before.before.requires, frames_small _ c.before.before.before.requires) }
 
 returns : tie.Need-returns
-returns c = write-7 _ c.before.before.before.before.requires _ c.if1.true
+returns c = write_7 _ c.before.before.before.before.requires _ c.if1.true
 
 put4-requires : tie.Need-put4-requires
 put4-requires c κs = search rules

@@ -1,4 +1,4 @@
-use Rattle.file_writes.proofs.Frames.{frame-stored}
+use Rattle.file_writes.proofs.Frames.{frame_stored}
 use borrow.Author.Rules.{rules}
 use Rattle.file_writes.proofs.write_frame.Statement.{statement}
 use Rattle.file_writes.proofs.write_frame.Tie as tie
@@ -20,7 +20,7 @@ same_length : tie.Need-same-length
 same_length c = search rules
 
 returns : tie.Need-returns
-returns c = frame-stored c.before.before.before.before.before.before.before.before.before.args.out.now c.before.before.before.before.before.before.put8.new.0 _ c.before.before.before.before.before.before.before.before.before.args.at c.before.before.before.before.before.before.before.before.before.args.payload c.before.before.before.before.before.before.before.before.before.args.size c.before.before.before.before.before.before.put8.ensures c.before.before.put4.ensures
+returns c = frame_stored c.before.before.before.before.before.before.before.before.before.args.out.now c.before.before.before.before.before.before.put8.new.0 _ c.before.before.before.before.before.before.before.before.before.args.at c.before.before.before.before.before.before.before.before.before.args.payload c.before.before.before.before.before.before.before.before.before.args.size c.before.before.before.before.before.before.put8.ensures c.before.before.put4.ensures
 
 pub write-frame-spec : {M : Type 1} → statement M
 write-frame-spec = tie.close (tie.spec put8-requires add-put4 put4-requires same_length returns)

@@ -1,5 +1,5 @@
 -- The three tests, in their order, decide what the door gives.
-use Rattle.rules.proofs.laws.Doors.{misshapen, unsound}
+use Rattle.rules.proofs.Laws.Doors.{misshapen, unsound}
 use Rattle.pools.proofs.Ask.{if_yes, if_no}
 use borrow.Author.Tests.{not-true, not-false}
 use mathlib.Core.Path.{◌∙◌}

@@ -1,13 +1,13 @@
 use mathlib.Core.Path.{refl, sym, ◌∙◌}
 use native.Mathlib.Omega.{arith}
 use Rattle.gather.specs.Elements.{passed, met}
-use Rattle.slots.proofs.Cells.{cell-of}
+use Rattle.slots.proofs.Cells.{cell_of}
 use borrow.Author.Rules.{rules}
 use Rattle.gather.proofs.visit.Statement.{statement}
 use Rattle.gather.proofs.visit.Tie as tie
 
 get-requires : tie.Need-get-requires
-get-requires c κs = cell-of c.before.before.before.before.requires.frame (omega arith)
+get-requires c κs = cell_of c.before.before.before.before.requires.frame (omega arith)
 
 same_length : tie.Need-same-length
 same_length c = search rules
@@ -16,10 +16,10 @@ returns : tie.Need-returns
 returns c = passed (sym c.before.get.ensures ∙ c.if1.true) refl refl refl
 
 get-requires-2 : tie.Need-get-requires-2
-get-requires-2 c κs = cell-of c.before.before.before.before.before.before.before.requires.frame (omega arith)
+get-requires-2 c κs = cell_of c.before.before.before.before.before.before.before.requires.frame (omega arith)
 
 get-requires-3 : tie.Need-get-requires-3
-get-requires-3 c κs = rw c.get2.ensures (cell-of (c.before.before.before.before.before.before.before.before.requires.header (λ q. c.before.before.if1.false (c.before.before.before.get.ensures ∙ q))) (omega arith))
+get-requires-3 c κs = rw c.get2.ensures (cell_of (c.before.before.before.before.before.before.before.before.requires.header (λ q. c.before.before.if1.false (c.before.before.before.get.ensures ∙ q))) (omega arith))
 
 copy-ring-requires : tie.Need-copy-ring-requires
 copy-ring-requires c κs = rw (c.before.before.get3.ensures, c.before.before.before.get2.ensures) (c.before.before.before.before.before.before.before.before.before.before.before.requires.ring (λ q. c.before.before.before.before.before.if1.false (c.before.before.before.before.before.before.get.ensures ∙ q)))

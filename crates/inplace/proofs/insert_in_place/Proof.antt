@@ -9,7 +9,7 @@ use denote.Triple.Spec.{triple_of}
 use denote.Triple.Table.{entered, cited}
 use Rattle.rules.specs.Tables.{state_of}
 use Rattle.rules.specs.Calls.{Ready, step, insert}
-use Rattle.rules.specs.Answers.{leaves, saidInserted}
+use Rattle.rules.specs.Answers.{leaves, said_inserted}
 use Rattle.inserts.proofs.insert.Symbol as callee
 use Rattle.inserts.proofs.insert.Met as callee-thm
 use Rattle.inplace.proofs.InsertWalk.{Asks, Does, Stepped, in_place, meets}
@@ -22,7 +22,7 @@ abbrev asks : {M : Type 1} (𝓤 : Ura M) → Asks 𝓤
 asks 𝓤 h es ss = fact 𝓤 (Ready (state_of h es ss))
 
 abbrev does : Does
-does h es ss k v z h' r es' ss' = leaves h' es' ss' [] (saidInserted r) ≡ step (state_of h es ss) [] (insert k v z)
+does h es ss k v z h' r es' ss' = leaves h' es' ss' [] (said_inserted r) ≡ step (state_of h es ss) [] (insert k v z)
 
 pub insert-in-place-spec : {M : Type 1} → statement M
 unfolding code.routine tables_of

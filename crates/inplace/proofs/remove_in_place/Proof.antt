@@ -9,7 +9,7 @@ use denote.Triple.Spec.{triple_of}
 use denote.Triple.Table.{entered, cited}
 use Rattle.rules.specs.Tables.{state_of}
 use Rattle.rules.specs.Calls.{Ready, step, remove}
-use Rattle.rules.specs.Answers.{leaves, saidRemoved}
+use Rattle.rules.specs.Answers.{leaves, said_removed}
 use Rattle.removes.proofs.remove_element.Symbol as callee
 use Rattle.removes.proofs.remove_element.Met as callee-thm
 use Rattle.inplace.proofs.RemoveWalk.{Asks, Does, Stepped, in_place, meets}
@@ -22,7 +22,7 @@ abbrev asks : {M : Type 1} (𝓤 : Ura M) → Asks 𝓤
 asks 𝓤 h es ss = fact 𝓤 (Ready (state_of h es ss))
 
 abbrev does : Does
-does h es ss k h' r es' ss' = leaves h' es' ss' [] (saidRemoved r.answer r.over) ≡ step (state_of h es ss) [] (remove k)
+does h es ss k h' r es' ss' = leaves h' es' ss' [] (said_removed r.answer r.over) ≡ step (state_of h es ss) [] (remove k)
 
 pub remove-in-place-spec : {M : Type 1} → statement M
 unfolding code.routine tables_of

@@ -1,7 +1,7 @@
 use mathlib.Core.Path.{◌∙◌}
 use Rattle.rules.specs.Runs.{insert}
-use Rattle.rules.proofs.laws.Safe.{safe}
-use Rattle.rules.proofs.laws.Totals.{sized-is}
+use Rattle.rules.proofs.Laws.Safe.{safe}
+use Rattle.rules.proofs.Laws.Totals.{sized-is}
 use native.Mathlib.Omega.{arith}
 use Rattle.slots.proofs.Live.{on-live}
 use borrow.Author.Rules.{rules}

@@ -1,5 +1,5 @@
 use Rattle.sample.proofs.Tests.{passed, then}
-use Rattle.sample.specs.Sample.{refusalOf, answerAt, RingOf, DrainsAs}
+use Rattle.sample.specs.Sample.{refusal_of, answer_at, RingOf, DrainsAs}
 use lib.ListN.{get_or}
 use native.Mathlib.Omega.{arith}
 use mathlib.Core.Path.{◌≡◌}
@@ -50,8 +50,8 @@ is-ring-requires c κs = search rules
 returns-5 : tie.Need-returns-5
 returns-5 c =
     let a = c.before.before.before.before.before.before.before.before.before.before.before.args in
-    let w : (0 ≡ refusalOf a.sample.now) × (get_or a.places.now (a.n * 6 - 2) 0 ≡ answerAt a.sample.now a.n) =
-    passed ((0 ≡ refusalOf a.sample.now) × (get_or a.places.now (a.n * 6 - 2) 0 ≡ answerAt a.sample.now a.n)) c.before.before.is-answer.result c.before.if5.true c.before.before.is-answer.ensures in
+    let w : (0 ≡ refusal_of a.sample.now) × (get_or a.places.now (a.n * 6 - 2) 0 ≡ answer_at a.sample.now a.n) =
+    passed ((0 ≡ refusal_of a.sample.now) × (get_or a.places.now (a.n * 6 - 2) 0 ≡ answer_at a.sample.now a.n)) c.before.before.is-answer.result c.before.if5.true c.before.before.is-answer.ensures in
     then (RingOf a.n 6 a.places.now a.given.now a.sample.now) (DrainsAs a.n a.places.now a.given.now a.sample.now) c.is-ring.result
     (λ ring. record { accepted = w.0; count = omega (arith, c.before.before.before.before.if4.false, c.before.before.before.before.before.number.ensures); value = w.1; ring = ring })
     c.is-ring.ensures

@@ -1,5 +1,5 @@
 -- `sample::keys::is_ring` meets its contract. The invariant: the keys so far are those of the frames, and `at` is where the next one stands.
-use Rattle.sample.proofs.Tests.{ring-more}
+use Rattle.sample.proofs.Tests.{ring_more}
 use Rattle.sample.specs.Sample.{RingOf}
 use native.Mathlib.Nat.{add-mul, one-mul}
 use native.Mathlib.Omega.{arith}
@@ -39,7 +39,7 @@ loop-again c =
     let e : (l.i + 1) * a.width ≡ l.i * a.width + 1 * a.width = add-mul l.i 1 a.width in
     let o : 1 * a.width ≡ a.width = one-mul a.width in (
       omega (arith, l.invariant.0, e, o),
-      ring-more l.i a.width l.at a.written.now a.given.now a.sample.now c.before.is_key.result c.if2.true l.invariant.0 l.invariant.1 c.before.is_key.ensures,
+      ring_more l.i a.width l.at a.written.now a.given.now a.sample.now c.before.is_key.result c.if2.true l.invariant.0 l.invariant.1 c.before.is_key.ensures,
     )
 
 returns-2 : tie.Need-returns-2 invariant-loop decreases-loop

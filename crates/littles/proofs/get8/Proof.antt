@@ -1,4 +1,4 @@
-use Rattle.littles.proofs.Cells.{value-at8}
+use Rattle.littles.proofs.Cells.{value_at8}
 use native.Mathlib.Omega.{arith}
 use borrow.Author.Rules.{rules}
 use Rattle.littles.proofs.get8.Statement.{statement}
@@ -23,7 +23,7 @@ add-result : tie.Need-overflow-add-result
 add-result c = search rules
 
 returns : tie.Need-returns
-returns c = rw (value-at8 c.before.before.before.args.b.now c.before.before.before.args.at) (omega (arith, c.before.get4.ensures.0, c.get42.ensures.0))
+returns c = rw (value_at8 c.before.before.before.args.b.now c.before.before.before.args.at) (omega (arith, c.before.get4.ensures.0, c.get42.ensures.0))
 
 pub get8-spec : {M : Type 1} → statement M
 get8-spec =

@@ -1,4 +1,4 @@
-use Rattle.littles.proofs.Cells.{sets-four}
+use Rattle.littles.proofs.Cells.{sets_four}
 use lib.ListN.{length-set}
 use native.Mathlib.Omega.{arith}
 use borrow.Author.Rules.{rules}
@@ -44,7 +44,7 @@ same_length : tie.Need-same-length
 same_length c = search rules
 
 returns : tie.Need-returns
-returns c = sets-four c.args.out.now c.args.at c.args.n
+returns c = sets_four c.args.out.now c.args.at c.args.n
 
 pub put4-spec : {M : Type 1} → statement M
 put4-spec =

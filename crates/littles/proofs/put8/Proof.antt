@@ -1,4 +1,4 @@
-use Rattle.littles.proofs.Cells.{sets-eight}
+use Rattle.littles.proofs.Cells.{sets_eight}
 use borrow.Author.Rules.{rules}
 use Rattle.littles.proofs.put8.Statement.{statement}
 use Rattle.littles.proofs.put8.Tie as tie
@@ -19,7 +19,7 @@ same_length : tie.Need-same-length
 same_length c = search rules
 
 returns : tie.Need-returns
-returns c = sets-eight c.before.before.before.before.before.before.before.before.before.args.out.now c.before.before.before.before.before.before.put4.new.0 c.before.before.put42.new.0 c.before.before.before.before.before.before.before.before.before.args.at c.before.before.before.before.before.before.before.before.before.args.n c.before.before.before.before.before.before.put4.ensures c.before.before.put42.ensures
+returns c = sets_eight c.before.before.before.before.before.before.before.before.before.args.out.now c.before.before.before.before.before.before.put4.new.0 c.before.before.put42.new.0 c.before.before.before.before.before.before.before.before.before.args.at c.before.before.before.before.before.before.before.before.before.args.n c.before.before.before.before.before.before.put4.ensures c.before.before.put42.ensures
 
 pub put8-spec : {M : Type 1} → statement M
 put8-spec = tie.close (tie.spec put4-requires add-put4 put4-requires-2 same_length returns)

@@ -1,6 +1,6 @@
 use Rattle.moves.proofs.Call.{refusing, fitting, move-empty, move-done, movable, whole-past, left-past}
-use Rattle.rules.proofs.laws.Moving.{move-13, move-5, move-6}
-use Rattle.rules.proofs.laws.Soundness.{shaped_of}
+use Rattle.rules.proofs.Laws.Moving.{move_13, move_5, move_6}
+use Rattle.rules.proofs.Laws.Soundness.{shaped_of}
 use Rattle.rules.specs.declared.Raised.{Raised}
 use native.Mathlib.Omega.{arith}
 use mathlib.Core.Path.{ap}
@@ -20,19 +20,19 @@ stays-requires : tie.Need-stays-requires
 stays-requires c κs = search rules
 
 returns : tie.Need-returns
-returns c = refusing _ _ _ _ _ c.stays.ensures (move-13 _ _ _ (inl c.before.if1.true))
+returns c = refusing _ _ _ _ _ c.stays.ensures (move_13 _ _ _ (inl c.before.if1.true))
 
 stays-requires-2 : tie.Need-stays-requires-2
 stays-requires-2 c κs = search rules
 
 returns-2 : tie.Need-returns-2
-returns-2 c = refusing _ _ _ _ _ c.stays2.ensures (move-5 _ _ _ (omega (arith, c.before.before.if1.false)) (omega (arith, c.before.before.before.before.before.before.before.ranges.generation)) c.before.if2.true)
+returns-2 c = refusing _ _ _ _ _ c.stays2.ensures (move_5 _ _ _ (omega (arith, c.before.before.if1.false)) (omega (arith, c.before.before.before.before.before.before.before.ranges.generation)) c.before.if2.true)
 
 stays-requires-3 : tie.Need-stays-requires-3
 stays-requires-3 c κs = search rules
 
 returns-3 : tie.Need-returns-3
-returns-3 c = refusing _ _ _ _ _ c.stays3.ensures (move-6 _ _ _ (omega (arith, c.before.before.before.if1.false)) (omega (arith, c.before.before.before.before.before.before.before.before.ranges.generation)) (omega (arith, c.before.before.if2.false)) c.before.if3.true)
+returns-3 c = refusing _ _ _ _ _ c.stays3.ensures (move_6 _ _ _ (omega (arith, c.before.before.before.if1.false)) (omega (arith, c.before.before.before.before.before.before.before.before.ranges.generation)) (omega (arith, c.before.before.if2.false)) c.before.if3.true)
 
 blank-requires : tie.Need-blank-requires
 blank-requires c κs = let H = shaped_of _ c.before.before.before.before.before.before.before.before.before.before.requires.0 in (whole-past _ _ _ H.elems.long, whole-past _ _ _ H.shared.long)

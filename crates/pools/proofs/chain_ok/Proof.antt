@@ -1,6 +1,6 @@
-use Rattle.rules.proofs.laws.Chains.{Both, Linked, linked-end, linked-free, linked-step}
+use Rattle.rules.proofs.Laws.Chains.{Both, Linked, linked-end, linked-free, linked-step}
 use Rattle.pools.proofs.Ask.{row_in}
-use Rattle.rules.proofs.laws.Pools.{Free}
+use Rattle.rules.proofs.Laws.Pools.{Free}
 use Rattle.rules.specs.Tables.{cell}
 use lib.ListN.{length}
 use mathlib.Core.Path.{◌≡◌, refl, sym, ◌∙◌}

@@ -1,6 +1,6 @@
 use mathlib.Core.Logic.{◌≢◌}
 use Rattle.pools.specs.Pools.{HeaderOk, Headers}
-use Rattle.rules.specs.Tables.{cell, headerWidth, count_of, mark_of}
+use Rattle.rules.specs.Tables.{cell, header_width, count_of, mark_of}
 use mathlib.Core.List.{List}
 use mathlib.Core.Path.{◌≡◌, refl, sym, ◌∙◌}
 use Prim.Native.Nat.{ℕ, ◌+◌, ◌*◌, ◌-◌, ◌≤◌, ◌<◌}
@@ -58,7 +58,7 @@ loop-again c =
     let d = c.before.before.before.before.before.before.before.before in
     let l = d.before.before.loop in
     let s = d.before.before.before.before.args.s.now in
-    let z : cell headerWidth s 0 (l.i + 1) ≡ 0 = sym d.get.ensures ∙ c.before.before.before.before.if3.true in
+    let z : cell header_width s 0 (l.i + 1) ≡ 0 = sym d.get.ensures ∙ c.before.before.before.before.if3.true in
     let m = marked s (l.i + 1) d.get.ensures c.before.before.before.before.before.before.before.get2.ensures c.before.before.before.before.before.before.if1.false c.before.before.before.before.before.if2.false in
     (omega (arith, d.before.loop-test.true), below_more _ _ l.invariant.1 (record { free = λ _. (sym c.before.before.before.get3.ensures ∙ c.before.before.if4.false, sym c.before.get4.ensures ∙ c.if5.false); live = λ u. absurd (u z); mark = m }))
 
@@ -76,7 +76,7 @@ loop-again-2 c =
     let d = c.before.before.before.before.before.before in
     let l = d.before.before.loop in
     let s = d.before.before.before.before.args.s.now in
-    let u : cell headerWidth s 0 (l.i + 1) ≢ 0 = λ z. c.before.before.if3.false (d.get.ensures ∙ z) in
+    let u : cell header_width s 0 (l.i + 1) ≢ 0 = λ z. c.before.before.if3.false (d.get.ensures ∙ z) in
     let m = marked s (l.i + 1) d.get.ensures c.before.before.before.before.before.get2.ensures c.before.before.before.before.if1.false c.before.before.before.if2.false in
     (omega (arith, d.before.loop-test.true), below_more _ _ l.invariant.1 (record { free = λ z. absurd (u z); live = λ _. sym c.before.get5.ensures ∙ c.if6.false; mark = m }))
 

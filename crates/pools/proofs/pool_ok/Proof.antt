@@ -1,4 +1,4 @@
-use Rattle.pools.proofs.Ask.{if_yes, if_no, extent-in}
+use Rattle.pools.proofs.Ask.{if_yes, if_no, extent_in}
 use borrow.Author.Tests.{not-true, not-false}
 use native.Mathlib.Nat.{mul-le-mul}
 use native.Mathlib.Omega.{arith}
@@ -26,7 +26,7 @@ returns-3 : tie.Need-returns-3
 returns-3 c = λ p. if_no c.before.zeros.result (not-true _ c.if3.true) c.before.zeros.ensures p.zeros
 
 chain-ok-requires : tie.Need-chain-ok-requires
-chain-ok-requires c κs = let a = c.before.before.before.before.before.before.before.before.before in (extent-in _ _ _ _ (omega (arith, c.before.before.before.before.before.before.if1.false)) a.requires.0.long, a.requires.2)
+chain-ok-requires c κs = let a = c.before.before.before.before.before.before.before.before.before in (extent_in _ _ _ _ (omega (arith, c.before.before.before.before.before.before.if1.false)) a.requires.0.long, a.requires.2)
 
 returns-4 : tie.Need-returns-4
 returns-4 c = λ p. if_no c.before.chain-ok.result (not-true _ c.if4.true) c.before.chain-ok.ensures p.chain

@@ -1,5 +1,5 @@
 use mathlib.Core.List.{List}
-use Rattle.rules.proofs.laws.Chains.{Both}
+use Rattle.rules.proofs.Laws.Chains.{Both}
 use Rattle.pools.proofs.Empty.{ZeroTo, zero_more, zero-past}
 use lib.ListN.{length, get_or, get_or-eq_default}
 use native.Mathlib.Decide.{dec_lt}

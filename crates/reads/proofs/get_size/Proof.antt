@@ -1,6 +1,6 @@
 use Rattle.slots.proofs.Live.{on-live}
-use Rattle.rules.proofs.laws.Safe.{safe}
-use Rattle.rules.specs.Reads.{getSize}
+use Rattle.rules.proofs.Laws.Safe.{safe}
+use Rattle.rules.specs.Reads.{get_size}
 use mathlib.Core.Path.{◌∙◌}
 use borrow.Author.Rules.{rules}
 use Rattle.reads.proofs.get_size.Statement.{statement}
@@ -17,14 +17,14 @@ enum-known-cause : tie.Need-enum-known-cause
 enum-known-cause c = search rules
 
 returns : tie.Need-returns
-unfolding getSize
+unfolding get_size
 returns c = let s = c.before.before.before.before.before.before.args.shared.now in rw ((c.before.before.before.find.ensures s).same ∙ c.before.cause.given.1)
 
 get-requires : tie.Need-get-requires
 get-requires c κs = let l = on-live _ _ _ _ c.before.before.before.before.before.before.requires (c.before.before.before.find.ensures _) c.before.x.given.1 in search rules
 
 returns-2 : tie.Need-returns-2
-unfolding getSize
+unfolding get_size
 returns-2 c = let s = c.before.before.before.before.before.before.before.args.shared.now in rw ((c.before.before.before.before.find.ensures s).same ∙ c.before.before.x.given.1, c.get.ensures)
 
 pub get-size-spec : {M : Type 1} → statement M

@@ -1,6 +1,6 @@
 use Rattle.slots.proofs.Live.{on-live}
-use Rattle.rules.specs.Reads.{inSameSurject}
-use Rattle.rules.proofs.laws.Safe.{safe}
+use Rattle.rules.specs.Reads.{in_same_surject}
+use Rattle.rules.proofs.Laws.Safe.{safe}
 use borrow.Author.Tests.{eq-eqb, ne_eqb}
 use mathlib.Core.Path.{◌∙◌}
 use borrow.Author.Rules.{rules}
@@ -18,7 +18,7 @@ enum-known-cause : tie.Need-enum-known-cause
 enum-known-cause c = search rules
 
 returns : tie.Need-returns
-unfolding inSameSurject
+unfolding in_same_surject
 returns c = let s = c.before.before.before.before.before.before.args.shared.now in rw ((c.before.before.before.find.ensures s).same ∙ c.before.cause.given.1)
 
 find-requires-2 : tie.Need-find-requires-2
@@ -31,7 +31,7 @@ enum-known-cause-2 : tie.Need-enum-known-cause-2
 enum-known-cause-2 c = search rules
 
 returns-2 : tie.Need-returns-2
-unfolding inSameSurject
+unfolding in_same_surject
 returns-2 c = let s = c.before.before.before.before.before.before.before.before.before.before.args.shared.now in rw ((c.before.before.before.before.before.before.before.find.ensures s).same ∙ c.before.before.before.before.before.x.given.1, (c.before.before.before.find2.ensures s).same ∙ c.before.cause2.given.1)
 
 get-requires : tie.Need-get-requires
@@ -41,12 +41,12 @@ get-requires-2 : tie.Need-get-requires-2
 get-requires-2 c κs = let l = on-live _ _ _ _ c.before.before.before.before.before.before.before.before.before.before.before.requires (c.before.before.before.before.find2.ensures _) c.before.before.y.given.1 in search rules
 
 returns-3 : tie.Need-returns-3
-unfolding inSameSurject
+unfolding in_same_surject
 returns-3 c = let s = c.before.before.before.before.before.before.before.before.before.before.before.before.before.args.shared.now in
     rw ((c.before.before.before.before.before.before.before.before.before.before.find.ensures s).same ∙ c.before.before.before.before.before.before.before.before.x.given.1, (c.before.before.before.before.before.before.find2.ensures s).same ∙ c.before.before.before.before.y.given.1, ← c.before.before.get.ensures, ← c.before.get2.ensures, eq-eqb _ _ c.if1.true)
 
 returns-4 : tie.Need-returns-4
-unfolding inSameSurject
+unfolding in_same_surject
 returns-4 c = let s = c.before.before.before.before.before.before.before.before.before.before.before.before.before.args.shared.now in
     rw ((c.before.before.before.before.before.before.before.before.before.before.find.ensures s).same ∙ c.before.before.before.before.before.before.before.before.x.given.1, (c.before.before.before.before.before.before.find2.ensures s).same ∙ c.before.before.before.before.y.given.1, ← c.before.before.get.ensures, ← c.before.get2.ensures, ne_eqb _ _ c.if1.false)
 

@@ -1,6 +1,6 @@
-use Rattle.rules.specs.Reads.{lenSurject}
+use Rattle.rules.specs.Reads.{len_surject}
 use Rattle.slots.proofs.Live.{on-live}
-use Rattle.rules.proofs.laws.Safe.{safe}
+use Rattle.rules.proofs.Laws.Safe.{safe}
 use mathlib.Core.Path.{◌∙◌}
 use borrow.Author.Rules.{rules}
 use Rattle.reads.proofs.len_surject.Statement.{statement}
@@ -17,7 +17,7 @@ enum-known-cause : tie.Need-enum-known-cause
 enum-known-cause c = search rules
 
 returns : tie.Need-returns
-unfolding lenSurject
+unfolding len_surject
 returns c = let s = c.before.before.before.before.before.before.args.shared.now in rw ((c.before.before.before.find.ensures s).same ∙ c.before.cause.given.1)
 
 get-requires : tie.Need-get-requires
@@ -27,7 +27,7 @@ get-requires-2 : tie.Need-get-requires-2
 get-requires-2 c κs = let l = on-live _ _ _ _ c.before.before.before.before.before.before.before.requires (c.before.before.before.before.find.ensures _) c.before.before.x.given.1 in rw c.get.ensures (search rules)
 
 returns-2 : tie.Need-returns-2
-unfolding lenSurject
+unfolding len_surject
 returns-2 c = let s = c.before.before.before.before.before.before.before.before.args.shared.now in rw ((c.before.before.before.before.before.find.ensures s).same ∙ c.before.before.before.x.given.1, c.get2.ensures, c.before.get.ensures)
 
 pub len-surject-spec : {M : Type 1} → statement M

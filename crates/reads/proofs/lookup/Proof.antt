@@ -1,5 +1,5 @@
 use Rattle.rules.specs.Reads.{lookup}
-use Rattle.rules.proofs.laws.Safe.{safe}
+use Rattle.rules.proofs.Laws.Safe.{safe}
 use mathlib.Core.Path.{◌∙◌}
 use borrow.Author.Rules.{rules}
 use Rattle.reads.proofs.lookup.Statement.{statement}

@@ -1,5 +1,5 @@
 use Rattle.slots.proofs.Live.{on-live}
-use Rattle.rules.proofs.laws.Safe.{safe}
+use Rattle.rules.proofs.Laws.Safe.{safe}
 use Rattle.rules.specs.Runs.{remove}
 use mathlib.Core.Path.{◌∙◌}
 use borrow.Author.Rules.{rules}

@@ -1,4 +1,4 @@
-use Rattle.rules.specs.Answers.{saidSame}
+use Rattle.rules.specs.Answers.{said_same}
 use mathlib.Core.Path.{ap, sym}
 use Rattle.sample.proofs.Tests.{told, one}
 use borrow.Author.Rules.{rules}
@@ -24,13 +24,13 @@ is-refused-requires : tie.Need-is-refused-requires
 is-refused-requires c κs = search rules
 
 returns : tie.Need-returns
-returns c = told _ _ c.before.before.before.args.sample.now c.is-answer.result (ap saidSame c.before.enum_told.given.1) (one _ c.before.before.before.args.sample.now c.is-answer.result c.is-answer.ensures)
+returns c = told _ _ c.before.before.before.args.sample.now c.is-answer.result (ap said_same c.before.enum_told.given.1) (one _ c.before.before.before.args.sample.now c.is-answer.result c.is-answer.ensures)
 
 returns-2 : tie.Need-returns-2
-returns-2 c = told _ _ c.before.before.before.args.sample.now c.is-answer2.result (ap saidSame c.before.enum-told2.given.1) (one _ c.before.before.before.args.sample.now c.is-answer2.result c.is-answer2.ensures)
+returns-2 c = told _ _ c.before.before.before.args.sample.now c.is-answer2.result (ap said_same c.before.enum-told2.given.1) (one _ c.before.before.before.args.sample.now c.is-answer2.result c.is-answer2.ensures)
 
 returns-3 : tie.Need-returns-3
-returns-3 c = told _ _ c.before.before.before.before.args.sample.now c.is-refused.result (ap saidSame c.before.before.answer.given.1) c.is-refused.ensures
+returns-3 c = told _ _ c.before.before.before.before.args.sample.now c.is-refused.result (ap said_same c.before.before.answer.given.1) c.is-refused.ensures
 
 pub is-same-spec : {M : Type 1} → statement M
 is-same-spec =

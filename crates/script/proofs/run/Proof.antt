@@ -1,5 +1,5 @@
 -- `script::run` meets its contract. The invariant: of some input, all was read, and what was printed and handed over is what Script says of it.
-use Rattle.blocks.proofs.Steps.{Lengths, Reading, reading-start, reading-next}
+use Rattle.blocks.proofs.Steps.{Lengths, Reading, reading_start, reading_next}
 use lib.ListN.{length}
 use native.Mathlib.Omega.{arith}
 use mathlib.Core.Logic.{⊎_elim}
@@ -24,7 +24,7 @@ loop-holds : tie.Need-loop-init invariant-loop decreases-loop
 loop-holds c =
     let a = c.before.before.before.before.before.before.before.before.args in
     let q = c.before.before.before.before.before.before.before.before.requires in (
-      reading-start _ _ a.elems.now a.shared.now a.keys.now a.out.now a.line.now c.before.fresh-head.ensures c.nothing-sent.ensures q.0 q.1,
+      reading_start _ _ a.elems.now a.shared.now a.keys.now a.out.now a.line.now c.before.fresh-head.ensures c.nothing-sent.ensures q.0 q.1,
       record { first = refl; second = refl; third = refl; fourth = refl; fifth = refl },
       refl,
     )
@@ -51,7 +51,7 @@ loop-again : tie.Need-loop-preserved invariant-loop decreases-loop
 loop-again c =
     let k = c.before.before.before.before.before.before.before.before.before.before.feed.auto in
     let i = c.before.before.before.before.before.before.before.before.before.before.before.before.before.before.before.before.before.before.before.before.before.before.before.loop.invariant in (
-      reading-next i.0 c.before.before.before.before.before.before.before.before.before.before.feed.ensures,
+      reading_next i.0 c.before.before.before.before.before.before.before.before.before.before.feed.ensures,
       record {
         first = omega (arith, k.1.0, i.1.first);
         second = omega (arith, k.1.1.0, i.1.second);

@@ -1,5 +1,5 @@
-use Rattle.seals.proofs.Ways.{seal-3, seal-12, seal-7, seal-done}
-use Rattle.rules.proofs.laws.Safe.{safe}
+use Rattle.seals.proofs.Ways.{seal_3, seal_12, seal_7, seal-done}
+use Rattle.rules.proofs.Laws.Safe.{safe}
 use Rattle.slots.proofs.Live.{on-live, all_in}
 use native.Mathlib.Omega.{arith}
 use mathlib.Core.Path.{◌∙◌}
@@ -17,7 +17,7 @@ enum-known-cause : tie.Need-enum-known-cause
 enum-known-cause c = search rules
 
 returns : tie.Need-returns
-returns c = seal-3 _ _ _ ((c.before.before.before.find.ensures _).same ∙ c.before.cause.given.1)
+returns c = seal_3 _ _ _ ((c.before.before.before.find.ensures _).same ∙ c.before.cause.given.1)
 
 is-sealed-requires : tie.Need-is-sealed-requires
 is-sealed-requires c κs = on-live _ _ _ _ c.before.before.before.before.before.before.before.before.requires (c.before.before.before.before.find.ensures _) c.before.before.x.given.1
@@ -26,7 +26,7 @@ same_length : tie.Need-same-length
 same_length c = search rules
 
 returns-2 : tie.Need-returns-2
-returns-2 c = seal-12 _ _ _ _ ((c.before.before.before.before.before.before.find.ensures _).same ∙ c.before.before.before.before.x.given.1) (c.before.is-sealed.ensures ∙ c.if1.true)
+returns-2 c = seal_12 _ _ _ _ ((c.before.before.before.before.before.before.find.ensures _).same ∙ c.before.before.before.before.x.given.1) (c.before.is-sealed.ensures ∙ c.if1.true)
 
 get-requires : tie.Need-get-requires
 get-requires c κs = let l = on-live _ _ _ _ c.before.before.before.before.before.before.before.before.before.before.requires (c.before.before.before.before.before.before.find.ensures _) c.before.before.before.before.x.given.1 in search rules
@@ -41,7 +41,7 @@ same-length-2 : tie.Need-same-length-2
 same-length-2 c = search rules
 
 returns-3 : tie.Need-returns-3
-returns-3 c = seal-7 _ _ _ _ ((c.before.before.before.before.before.before.before.before.before.before.find.ensures _).same ∙ c.before.before.before.before.before.before.before.before.x.given.1) (c.before.before.before.before.before.is-sealed.ensures ∙ c.before.before.before.before.if1.false) (rw (← c.before.before.before.get.ensures, ← c.before.get2.ensures) c.if2.true)
+returns-3 c = seal_7 _ _ _ _ ((c.before.before.before.before.before.before.before.before.before.before.find.ensures _).same ∙ c.before.before.before.before.before.before.before.before.x.given.1) (c.before.before.before.before.before.is-sealed.ensures ∙ c.before.before.before.before.if1.false) (rw (← c.before.before.before.get.ensures, ← c.before.get2.ensures) c.if2.true)
 
 write-places-requires : tie.Need-write-places-requires
 write-places-requires c κs = let l = on-live _ _ _ _ c.before.before.before.before.before.before.before.before.before.before.before.before.before.before.before.requires (c.before.before.before.before.before.before.before.before.before.before.before.find.ensures _) c.before.before.before.before.before.before.before.before.before.x.given.1 in (all_in _ _ _ l.safe l.live, c.before.if2.false)

@@ -1,4 +1,4 @@
-use Rattle.slots.proofs.Places.{row-puts}
+use Rattle.slots.proofs.Places.{row_puts}
 use mathlib.Core.Path.{sym}
 use borrow.Author.Rules.{rules}
 use Rattle.seals.proofs.write_place.Statement.{statement}
@@ -17,7 +17,7 @@ same_length : tie.Need-same-length
 same_length c = search rules
 
 returns : tie.Need-returns
-returns c = rw (c.before.before.put3.ensures, c.before.before.before.before.before.before.put2.ensures, c.before.before.before.before.before.before.before.before.before.before.put.ensures) (sym (row-puts _ _ _ _ c.before.before.before.before.before.before.before.before.before.before.before.before.before.requires.some))
+returns c = rw (c.before.before.put3.ensures, c.before.before.before.before.before.before.put2.ensures, c.before.before.before.before.before.before.before.before.before.before.put.ensures) (sym (row_puts _ _ _ _ c.before.before.before.before.before.before.before.before.before.before.before.before.before.requires.some))
 
 pub write-place-spec : {M : Type 1} → statement M
 write-place-spec =

@@ -1,6 +1,6 @@
-use Rattle.rules.specs.Reads.{setShared}
+use Rattle.rules.specs.Reads.{set_shared}
 use Rattle.slots.proofs.Live.{on-live}
-use Rattle.rules.proofs.laws.Safe.{safe}
+use Rattle.rules.proofs.Laws.Safe.{safe}
 use mathlib.Core.Path.{◌∙◌}
 use borrow.Author.Rules.{rules}
 use Rattle.sets.proofs.set_shared.Statement.{statement}
@@ -17,7 +17,7 @@ enum-known-cause : tie.Need-enum-known-cause
 enum-known-cause c = search rules
 
 returns : tie.Need-returns
-unfolding setShared
+unfolding set_shared
 returns c = let s = c.before.before.before.before.before.before.args.shared.now in rw ((c.before.before.before.find.ensures s).same ∙ c.before.cause.given.1)
 
 get-requires : tie.Need-get-requires
@@ -36,7 +36,7 @@ same_length : tie.Need-same-length
 same_length c = search rules
 
 returns-2 : tie.Need-returns-2
-unfolding setShared
+unfolding set_shared
 returns-2 c = let s = c.before.before.before.before.before.before.before.before.before.before.before.before.before.before.args.shared.now in rw ((c.before.before.before.before.before.before.before.before.before.before.before.find.ensures s).same ∙ c.before.before.before.before.before.before.before.before.before.x.given.1, c.before.before.before.put.ensures, c.before.before.before.before.before.get2.ensures, c.before.before.before.before.before.before.before.get.ensures, c.forget.ensures)
 
 pub set-shared-spec : {M : Type 1} → statement M

@@ -1,6 +1,6 @@
 use mathlib.Core.Path.{◌∙◌}
 use borrow.Author.Tests.{not-true, not-false}
-use Rattle.shape.proofs.Shapes.{neither-fit, first_fits}
+use Rattle.shape.proofs.Shapes.{neither_fit, first_fits}
 use borrow.Author.Rules.{rules}
 use Rattle.shape.proofs.both_fit.Statement.{statement}
 use Rattle.shape.proofs.both_fit.Tie as tie
@@ -9,7 +9,7 @@ fits-requires : tie.Need-fits-requires
 fits-requires c κs = search rules
 
 returns : tie.Need-returns
-returns c = λ head. neither-fit _ _ _ _ c.before.fits2.result head c.before.fits2.ensures (not-true _ c.if1.true)
+returns c = λ head. neither_fit _ _ _ _ c.before.fits2.result head c.before.fits2.ensures (not-true _ c.if1.true)
 
 fits-requires-2 : tie.Need-fits-requires-2
 fits-requires-2 c κs = search rules

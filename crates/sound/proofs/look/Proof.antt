@@ -1,4 +1,4 @@
-use Rattle.sound.proofs.Turns.{wrong-free, wrong-class, wrong-ring, frame_at, first-at}
+use Rattle.sound.proofs.Turns.{wrong_free, wrong_class, wrong_ring, frame_at, first-at}
 use Rattle.pools.proofs.Ask.{if_yes, if_no}
 use Rattle.rules.specs.Tables.{state_of}
 use borrow.Author.Tests.{not-true, not-false}
@@ -15,7 +15,7 @@ free-ok-requires : tie.Need-free-ok-requires
 free-ok-requires c κs = search rules
 
 returns : tie.Need-returns
-returns c = wrong-free _ c.before.before.before.before.before.before.before.before.before.requires.0.shape _ (sym c.before.before.before.get.ensures ∙ c.before.before.if1.true) (if_no c.before.free-ok.result (not-true _ c.if2.true) c.before.free-ok.ensures)
+returns c = wrong_free _ c.before.before.before.before.before.before.before.before.before.requires.0.shape _ (sym c.before.before.before.get.ensures ∙ c.before.before.if1.true) (if_no c.before.free-ok.result (not-true _ c.if2.true) c.before.free-ok.ensures)
 
 returns-2 : tie.Need-returns-2
 returns-2 c = (sym c.before.before.before.get.ensures ∙ c.before.before.if1.true, if_yes c.before.free-ok.result (not-false _ c.if2.false) c.before.free-ok.ensures, refl)
@@ -24,10 +24,10 @@ get-requires-2 : tie.Need-get-requires-2
 get-requires-2 c κs = search rules
 
 returns-3 : tie.Need-returns-3
-returns-3 c = wrong-class (state_of c.before.before.before.before.before.before.before.before.before.args.head c.before.before.before.before.before.before.before.before.before.args.e.now c.before.before.before.before.before.before.before.before.before.args.s.now) c.before.before.before.before.before.before.before.before.before.requires.0.shape _ c.before.get2.result (λ z. c.before.before.if1.false (c.before.before.before.get.ensures ∙ z)) c.before.get2.ensures (λ w. omega (arith, w.low, c.if3.true))
+returns-3 c = wrong_class (state_of c.before.before.before.before.before.before.before.before.before.args.head c.before.before.before.before.before.before.before.before.before.args.e.now c.before.before.before.before.before.before.before.before.before.args.s.now) c.before.before.before.before.before.before.before.before.before.requires.0.shape _ c.before.get2.result (λ z. c.before.before.if1.false (c.before.before.before.get.ensures ∙ z)) c.before.get2.ensures (λ w. omega (arith, w.low, c.if3.true))
 
 returns-4 : tie.Need-returns-4
-returns-4 c = wrong-class (state_of c.before.before.before.before.before.before.before.before.before.before.before.args.head c.before.before.before.before.before.before.before.before.before.before.before.args.e.now c.before.before.before.before.before.before.before.before.before.before.before.args.s.now) c.before.before.before.before.before.before.before.before.before.before.before.requires.0.shape _ c.before.before.before.get2.result (λ z. c.before.before.before.before.if1.false (c.before.before.before.before.before.get.ensures ∙ z)) c.before.before.before.get2.ensures (λ w. omega (arith, w.high, c.if4.true))
+returns-4 c = wrong_class (state_of c.before.before.before.before.before.before.before.before.before.before.before.args.head c.before.before.before.before.before.before.before.before.before.before.before.args.e.now c.before.before.before.before.before.before.before.before.before.before.before.args.s.now) c.before.before.before.before.before.before.before.before.before.before.before.requires.0.shape _ c.before.before.before.get2.result (λ z. c.before.before.before.before.if1.false (c.before.before.before.before.before.get.ensures ∙ z)) c.before.before.before.get2.ensures (λ w. omega (arith, w.high, c.if4.true))
 
 sub-is-marked : tie.Need-overflow-sub-is-marked
 sub-is-marked c = search rules
@@ -60,7 +60,7 @@ same-length-2 : tie.Need-same-length-2
 same-length-2 c = search rules
 
 returns-6 : tie.Need-returns-6
-returns-6 c = wrong-ring (state_of c.before.before.before.before.before.before.before.before.before.before.before.before.before.before.before.before.before.before.before.before.before.before.args.head c.before.before.before.before.before.before.before.before.before.before.before.before.before.before.before.before.before.before.before.before.before.before.args.e.now c.before.before.before.before.before.before.before.before.before.before.before.before.before.before.before.before.before.before.before.before.before.before.args.s.now) c.before.before.before.before.before.before.before.before.before.before.before.before.before.before.before.before.before.before.before.before.before.before.requires.0.shape _ c.before.before.before.before.before.before.before.before.before.before.before.before.before.before.get2.result (λ z. c.before.before.before.before.before.before.before.before.before.before.before.before.before.before.before.if1.false (c.before.before.before.before.before.before.before.before.before.before.before.before.before.before.before.before.get.ensures ∙ z)) c.before.before.before.before.before.before.before.before.before.before.before.before.before.before.get2.ensures c.before.before.before.get3.result c.before.before.get4.result c.before.before.before.get3.ensures c.before.before.get4.ensures (if_no c.before.ring-ok.result (not-true _ c.if6.true) c.before.ring-ok.ensures)
+returns-6 c = wrong_ring (state_of c.before.before.before.before.before.before.before.before.before.before.before.before.before.before.before.before.before.before.before.before.before.before.args.head c.before.before.before.before.before.before.before.before.before.before.before.before.before.before.before.before.before.before.before.before.before.before.args.e.now c.before.before.before.before.before.before.before.before.before.before.before.before.before.before.before.before.before.before.before.before.before.before.args.s.now) c.before.before.before.before.before.before.before.before.before.before.before.before.before.before.before.before.before.before.before.before.before.before.requires.0.shape _ c.before.before.before.before.before.before.before.before.before.before.before.before.before.before.get2.result (λ z. c.before.before.before.before.before.before.before.before.before.before.before.before.before.before.before.if1.false (c.before.before.before.before.before.before.before.before.before.before.before.before.before.before.before.before.get.ensures ∙ z)) c.before.before.before.before.before.before.before.before.before.before.before.before.before.before.get2.ensures c.before.before.before.get3.result c.before.before.get4.result c.before.before.before.get3.ensures c.before.before.get4.ensures (if_no c.before.ring-ok.result (not-true _ c.if6.true) c.before.ring-ok.ensures)
 
 same-length-3 : tie.Need-same-length-3
 same-length-3 c = search rules

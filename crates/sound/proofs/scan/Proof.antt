@@ -1,4 +1,4 @@
-use Rattle.sound.proofs.Turns.{turn-free, turn-seen, turn-first, turn-wrong, wrong-met, wrong-rings, scanned}
+use Rattle.sound.proofs.Turns.{turn_free, turn_seen, turn_first, turn_wrong, wrong_met, wrong_rings, scanned}
 use Rattle.sound.proofs.Scans.{begun, bounded}
 use Rattle.sound.specs.Scans.{Scan}
 use Rattle.rules.specs.Tables.{state_of}
@@ -32,7 +32,7 @@ same_length : tie.Need-same-length invariant-loop decreases-loop
 same_length c = c.before.before.before.before.look.auto.1.1.1.0 ∙ c.before.before.before.before.before.before.before.before.loop.invariant.1
 
 returns : tie.Need-returns invariant-loop decreases-loop
-returns c = turn-wrong (state_of c.before.before.before.before.before.before.before.before.before.before.before.before.before.before.args.head c.before.before.before.before.before.before.before.before.before.before.before.before.before.before.args.e.now c.before.before.before.before.before.before.before.before.before.before.before.before.before.before.args.s.now) c.before.before.before.before.before.before.before.before.loop.i c.before.before.before.before.before.before.before.before.loop.met c.before.before.before.before.before.before.before.before.loop.rings c.before.before.before.before.before.before.before.before.loop.seen _ c.before.before.before.before.look.result c.before.before.before.before.before.before.before.before.loop.invariant.2 c.before.before.before.before.look.ensures c.enum_told.given.1
+returns c = turn_wrong (state_of c.before.before.before.before.before.before.before.before.before.before.before.before.before.before.args.head c.before.before.before.before.before.before.before.before.before.before.before.before.before.before.args.e.now c.before.before.before.before.before.before.before.before.before.before.before.before.before.before.args.s.now) c.before.before.before.before.before.before.before.before.loop.i c.before.before.before.before.before.before.before.before.loop.met c.before.before.before.before.before.before.before.before.loop.rings c.before.before.before.before.before.before.before.before.loop.seen _ c.before.before.before.before.look.result c.before.before.before.before.before.before.before.before.loop.invariant.2 c.before.before.before.before.look.ensures c.enum_told.given.1
 
 enum-told-2 : tie.Need-enum-told-2 invariant-loop decreases-loop
 enum-told-2 c = search rules
@@ -41,7 +41,7 @@ loop-less : tie.Need-loop-smaller invariant-loop decreases-loop
 loop-less c = omega (arith, c.before.before.before.before.before.before.if1.true)
 
 loop-again : tie.Need-loop-preserved invariant-loop decreases-loop
-loop-again c = (omega (arith, c.before.before.before.before.before.before.if1.true), c.before.before.before.before.look.auto.1.1.1.0 ∙ c.before.before.before.before.before.before.before.before.loop.invariant.1, turn-free (state_of c.before.before.before.before.before.before.before.before.before.before.before.before.before.before.args.head c.before.before.before.before.before.before.before.before.before.before.before.before.before.before.args.e.now c.before.before.before.before.before.before.before.before.before.before.before.before.before.before.args.s.now) c.before.before.before.before.before.before.before.before.loop.i c.before.before.before.before.before.before.before.before.loop.met c.before.before.before.before.before.before.before.before.loop.rings c.before.before.before.before.before.before.before.before.loop.seen _ c.before.before.before.before.look.result c.before.before.before.before.before.before.before.before.loop.invariant.2 c.before.before.before.before.look.ensures c.enum-told2.given.1)
+loop-again c = (omega (arith, c.before.before.before.before.before.before.if1.true), c.before.before.before.before.look.auto.1.1.1.0 ∙ c.before.before.before.before.before.before.before.before.loop.invariant.1, turn_free (state_of c.before.before.before.before.before.before.before.before.before.before.before.before.before.before.args.head c.before.before.before.before.before.before.before.before.before.before.before.before.before.before.args.e.now c.before.before.before.before.before.before.before.before.before.before.before.before.before.before.args.s.now) c.before.before.before.before.before.before.before.before.loop.i c.before.before.before.before.before.before.before.before.loop.met c.before.before.before.before.before.before.before.before.loop.rings c.before.before.before.before.before.before.before.before.loop.seen _ c.before.before.before.before.look.result c.before.before.before.before.before.before.before.before.loop.invariant.2 c.before.before.before.before.look.ensures c.enum-told2.given.1)
 
 enum-told-3 : tie.Need-enum-told-3 invariant-loop decreases-loop
 enum-told-3 c = search rules
@@ -50,13 +50,13 @@ loop-less-2 : tie.Need-loop-smaller-2 invariant-loop decreases-loop
 loop-less-2 c = omega (arith, c.before.before.before.before.before.before.if1.true)
 
 loop-again-2 : tie.Need-loop-preserved-2 invariant-loop decreases-loop
-loop-again-2 c = (omega (arith, c.before.before.before.before.before.before.if1.true), c.before.before.before.before.look.auto.1.1.1.0 ∙ c.before.before.before.before.before.before.before.before.loop.invariant.1, turn-seen (state_of c.before.before.before.before.before.before.before.before.before.before.before.before.before.before.args.head c.before.before.before.before.before.before.before.before.before.before.before.before.before.before.args.e.now c.before.before.before.before.before.before.before.before.before.before.before.before.before.before.args.s.now) c.before.before.before.before.before.before.before.before.loop.i c.before.before.before.before.before.before.before.before.loop.met c.before.before.before.before.before.before.before.before.loop.rings c.before.before.before.before.before.before.before.before.loop.seen _ c.before.before.before.before.look.result c.before.before.before.before.before.before.before.before.loop.invariant.2 c.before.before.before.before.look.ensures c.enum-told3.given.1)
+loop-again-2 c = (omega (arith, c.before.before.before.before.before.before.if1.true), c.before.before.before.before.look.auto.1.1.1.0 ∙ c.before.before.before.before.before.before.before.before.loop.invariant.1, turn_seen (state_of c.before.before.before.before.before.before.before.before.before.before.before.before.before.before.args.head c.before.before.before.before.before.before.before.before.before.before.before.before.before.before.args.e.now c.before.before.before.before.before.before.before.before.before.before.before.before.before.before.args.s.now) c.before.before.before.before.before.before.before.before.loop.i c.before.before.before.before.before.before.before.before.loop.met c.before.before.before.before.before.before.before.before.loop.rings c.before.before.before.before.before.before.before.before.loop.seen _ c.before.before.before.before.look.result c.before.before.before.before.before.before.before.before.loop.invariant.2 c.before.before.before.before.look.ensures c.enum-told3.given.1)
 
 enum-known-count : tie.Need-enum-known-count invariant-loop decreases-loop
 enum-known-count c = search rules
 
 add-met : tie.Need-overflow-add-met invariant-loop decreases-loop
-add-met c = omega (arith, bounded _ _ _ _ _ (turn-first (state_of c.before.before.before.before.before.before.before.before.before.before.before.before.before.before.before.args.head c.before.before.before.before.before.before.before.before.before.before.before.before.before.before.before.args.e.now c.before.before.before.before.before.before.before.before.before.before.before.before.before.before.before.args.s.now) c.before.before.before.before.before.before.before.before.before.loop.i c.before.before.before.before.before.before.before.before.before.loop.met c.before.before.before.before.before.before.before.before.before.loop.rings c.before.before.before.before.before.before.before.before.before.loop.seen _ c.before.before.before.before.before.look.result c.before.before.before.before.before.before.before.before.before.loop.invariant.2 c.before.before.before.before.before.look.ensures c.before.count.given.0.0 c.before.count.given.1), c.before.before.before.before.before.before.before.before.before.before.before.before.before.before.before.requires.0.few)
+add-met c = omega (arith, bounded _ _ _ _ _ (turn_first (state_of c.before.before.before.before.before.before.before.before.before.before.before.before.before.before.before.args.head c.before.before.before.before.before.before.before.before.before.before.before.before.before.before.before.args.e.now c.before.before.before.before.before.before.before.before.before.before.before.before.before.before.before.args.s.now) c.before.before.before.before.before.before.before.before.before.loop.i c.before.before.before.before.before.before.before.before.before.loop.met c.before.before.before.before.before.before.before.before.before.loop.rings c.before.before.before.before.before.before.before.before.before.loop.seen _ c.before.before.before.before.before.look.result c.before.before.before.before.before.before.before.before.before.loop.invariant.2 c.before.before.before.before.before.look.ensures c.before.count.given.0.0 c.before.count.given.1), c.before.before.before.before.before.before.before.before.before.before.before.before.before.before.before.requires.0.few)
 
 add-rings : tie.Need-overflow-add-rings invariant-loop decreases-loop
 add-rings c = omega (arith, c.before.before.before.before.before.before.before.before.before.loop.invariant.2.few, c.before.before.before.before.before.before.before.before.before.before.before.before.before.before.before.requires.0.few, c.before.before.before.before.before.before.before.before.before.loop.invariant.0)
@@ -65,19 +65,19 @@ loop-less-3 : tie.Need-loop-smaller-3 invariant-loop decreases-loop
 loop-less-3 c = omega (arith, c.before.before.before.before.before.before.before.if1.true)
 
 loop-again-3 : tie.Need-loop-preserved-3 invariant-loop decreases-loop
-loop-again-3 c = (omega (arith, c.before.before.before.before.before.before.before.if1.true), c.before.before.before.before.before.look.auto.1.1.1.0 ∙ c.before.before.before.before.before.before.before.before.before.loop.invariant.1, turn-first (state_of c.before.before.before.before.before.before.before.before.before.before.before.before.before.before.before.args.head c.before.before.before.before.before.before.before.before.before.before.before.before.before.before.before.args.e.now c.before.before.before.before.before.before.before.before.before.before.before.before.before.before.before.args.s.now) c.before.before.before.before.before.before.before.before.before.loop.i c.before.before.before.before.before.before.before.before.before.loop.met c.before.before.before.before.before.before.before.before.before.loop.rings c.before.before.before.before.before.before.before.before.before.loop.seen _ c.before.before.before.before.before.look.result c.before.before.before.before.before.before.before.before.before.loop.invariant.2 c.before.before.before.before.before.look.ensures c.before.count.given.0.0 c.before.count.given.1)
+loop-again-3 c = (omega (arith, c.before.before.before.before.before.before.before.if1.true), c.before.before.before.before.before.look.auto.1.1.1.0 ∙ c.before.before.before.before.before.before.before.before.before.loop.invariant.1, turn_first (state_of c.before.before.before.before.before.before.before.before.before.before.before.before.before.before.before.args.head c.before.before.before.before.before.before.before.before.before.before.before.before.before.before.before.args.e.now c.before.before.before.before.before.before.before.before.before.before.before.before.before.before.before.args.s.now) c.before.before.before.before.before.before.before.before.before.loop.i c.before.before.before.before.before.before.before.before.before.loop.met c.before.before.before.before.before.before.before.before.before.loop.rings c.before.before.before.before.before.before.before.before.before.loop.seen _ c.before.before.before.before.before.look.result c.before.before.before.before.before.before.before.before.before.loop.invariant.2 c.before.before.before.before.before.look.ensures c.before.count.given.0.0 c.before.count.given.1)
 
 same-length-2 : tie.Need-same-length-2 invariant-loop decreases-loop
 same-length-2 c = c.before.before.before.before.loop.invariant.1
 
 returns-2 : tie.Need-returns-2 invariant-loop decreases-loop
-returns-2 c = wrong-met (state_of c.before.before.before.before.before.before.before.before.before.before.args.head c.before.before.before.before.before.before.before.before.before.before.args.e.now c.before.before.before.before.before.before.before.before.before.before.args.s.now) _ _ _ _ c.before.before.before.before.loop.invariant.2 (omega (arith, c.before.before.before.before.loop.invariant.0, c.before.before.if1.false)) c.before.before.before.before.before.before.before.before.before.before.requires.0.shape c.if2.true
+returns-2 c = wrong_met (state_of c.before.before.before.before.before.before.before.before.before.before.args.head c.before.before.before.before.before.before.before.before.before.before.args.e.now c.before.before.before.before.before.before.before.before.before.before.args.s.now) _ _ _ _ c.before.before.before.before.loop.invariant.2 (omega (arith, c.before.before.before.before.loop.invariant.0, c.before.before.if1.false)) c.before.before.before.before.before.before.before.before.before.before.requires.0.shape c.if2.true
 
 same-length-3 : tie.Need-same-length-3 invariant-loop decreases-loop
 same-length-3 c = c.before.before.before.before.before.before.loop.invariant.1
 
 returns-3 : tie.Need-returns-3 invariant-loop decreases-loop
-returns-3 c = wrong-rings (state_of c.before.before.before.before.before.before.before.before.before.before.before.before.args.head c.before.before.before.before.before.before.before.before.before.before.before.before.args.e.now c.before.before.before.before.before.before.before.before.before.before.before.before.args.s.now) _ _ _ _ c.before.before.before.before.before.before.loop.invariant.2 (omega (arith, c.before.before.before.before.before.before.loop.invariant.0, c.before.before.before.before.if1.false)) c.before.before.before.before.before.before.before.before.before.before.before.before.requires.0.shape c.if3.true
+returns-3 c = wrong_rings (state_of c.before.before.before.before.before.before.before.before.before.before.before.before.args.head c.before.before.before.before.before.before.before.before.before.before.before.before.args.e.now c.before.before.before.before.before.before.before.before.before.before.before.before.args.s.now) _ _ _ _ c.before.before.before.before.before.before.loop.invariant.2 (omega (arith, c.before.before.before.before.before.before.loop.invariant.0, c.before.before.before.before.if1.false)) c.before.before.before.before.before.before.before.before.before.before.before.before.requires.0.shape c.if3.true
 
 same-length-4 : tie.Need-same-length-4 invariant-loop decreases-loop
 same-length-4 c = c.before.before.before.before.before.before.loop.invariant.1

@@ -1,6 +1,6 @@
 use mathlib.Core.Path.{sym, ◌∙◌}
 use native.Mathlib.Omega.{arith}
-use Rattle.rules.proofs.laws.Safe.{safe}
+use Rattle.rules.proofs.Laws.Safe.{safe}
 use Rattle.sweeps.proofs.Emptying.{slot-free}
 use Rattle.drains.proofs.Draining.{frame_at}
 use borrow.Author.Rules.{rules}
@@ -24,7 +24,7 @@ drain-run-requires c κs =
     let o = frame_at _ c.before.before.before.before.before.before.before.before.before.before.before.before.requires.ready _ (λ e. c.before.before.before.before.before.before.if1.false (c.before.before.before.before.before.before.before.get.ensures ∙ e)) in
     record {
       run = record { ready = c.before.before.before.before.before.before.before.before.before.before.before.before.requires.ready; live = λ h. o.live; size = λ h. sym c.before.before.before.size-at.ensures };
-      room = rw c.before.before.before.size-at.ensures (omega (arith, c.before.before.before.before.before.before.before.before.before.before.before.before.requires.room, o.frame.count-in));
+      room = rw c.before.before.before.size-at.ensures (omega (arith, c.before.before.before.before.before.before.before.before.before.before.before.before.requires.room, o.frame.count_in));
     }
 
 same-length-2 : tie.Need-same-length-2

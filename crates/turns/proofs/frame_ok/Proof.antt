@@ -1,7 +1,7 @@
 use mathlib.Core.Path.{sym, ap, ◌∙◌}
 use native.Mathlib.Omega.{arith}
 use borrow.Author.Rules.{rules}
-use Rattle.rules.specs.Tables.{previousOf}
+use Rattle.rules.specs.Tables.{previous_of}
 use Rattle.turns.proofs.frame_ok.Statement.{statement}
 use Rattle.turns.proofs.frame_ok.Tie as tie
 
@@ -33,7 +33,7 @@ get-requires-4 : tie.Need-get-requires-4
 get-requires-4 c κs = search rules
 
 returns-6 : tie.Need-returns-6
-returns-6 c = λ p. c.if6.true (c.before.get4.ensures ∙ ap (previousOf _) c.before.before.before.before.get3.ensures ∙ p.back)
+returns-6 c = λ p. c.if6.true (c.before.get4.ensures ∙ ap (previous_of _) c.before.before.before.before.get3.ensures ∙ p.back)
 
 get-requires-5 : tie.Need-get-requires-5
 get-requires-5 c κs = search rules
@@ -53,7 +53,7 @@ returns-8 c =
       most = let high = c.before.before.before.before.before.before.before.before.before.if2.false in omega arith;
       mine = sym c.before.before.before.before.before.before.before.before.get2.ensures ∙ c.before.before.before.before.before.before.before.if3.false;
       onward = record { low = omega arith; high = omega arith };
-      back = sym (c.before.before.before.get4.ensures ∙ ap (previousOf _) next) ∙ c.before.before.if6.false;
+      back = sym (c.before.before.before.get4.ensures ∙ ap (previous_of _) next) ∙ c.before.before.if6.false;
       small = omega (arith, c.before.get5.ensures, c.if7.false);
     }
 

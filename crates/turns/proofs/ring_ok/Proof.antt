@@ -1,5 +1,5 @@
-use Rattle.rules.proofs.laws.Chains.{Both}
-use Rattle.rules.proofs.laws.Rounds.{Within, Round, round-none, round-fit, round-bytes, round-last, round-early, round-step}
+use Rattle.rules.proofs.Laws.Chains.{Both}
+use Rattle.rules.proofs.Laws.Rounds.{Within, Round, round-none, round_fit, round-bytes, round-last, round_early, round-step}
 use Rattle.pools.proofs.Ask.{if_yes, if_no}
 use mathlib.Core.Path.{◌≡◌, refl, sym, ◌∙◌}
 use Prim.Native.Nat.{ℕ, ◌+◌, ◌*◌, ◌-◌, ◌≤◌, ◌<◌}
@@ -24,7 +24,7 @@ frame-ok-requires c κs = (c.before.before.before.requires.0, c.before.loop.inva
 returns : tie.Need-returns invariant-loop decreases-loop
 returns c = λ p.
     let l = c.before.before.before.loop in
-    if_no c.before.frame-ok.result (not-true _ c.if1.true) c.before.frame-ok.ensures (round-fit _ _ _ _ l.left l.rest l.y (l.invariant.1.1 p))
+    if_no c.before.frame-ok.result (not-true _ c.if1.true) c.before.frame-ok.ensures (round_fit _ _ _ _ l.left l.rest l.y (l.invariant.1.1 p))
 
 get-requires : tie.Need-get-requires invariant-loop decreases-loop
 get-requires c κs = let w = c.before.before.before.loop.invariant.0 in omega (arith, c.before.before.before.before.before.requires.0)
@@ -45,7 +45,7 @@ returns-3 : tie.Need-returns-3 invariant-loop decreases-loop
 returns-3 c = λ p.
     let d = c.before.before.before.before in
     let l = d.before.before.before.before.loop in
-    let r = round-early _ _ _ _ l.left l.rest l.y (sym d.get.ensures ∙ c.before.if3.true) (l.invariant.1.1 p) in
+    let r = round_early _ _ _ _ l.left l.rest l.y (sym d.get.ensures ∙ c.before.if3.true) (l.invariant.1.1 p) in
     c.if4.true r.0
 
 returns-4 : tie.Need-returns-4 invariant-loop decreases-loop
@@ -53,7 +53,7 @@ returns-4 c = λ p.
     let s = c.before.before.before.before in
     let d = s.before in
     let l = d.before.before.before.before.loop in
-    let r = round-early _ _ _ _ l.left l.rest l.y (sym d.get.ensures ∙ c.before.before.if3.true) (l.invariant.1.1 p) in
+    let r = round_early _ _ _ _ l.left l.rest l.y (sym d.get.ensures ∙ c.before.before.if3.true) (l.invariant.1.1 p) in
     omega (arith, r.1, s.get2.ensures, c.if5.true)
 
 returns-5 : tie.Need-returns-5 invariant-loop decreases-loop

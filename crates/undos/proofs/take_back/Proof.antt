@@ -1,6 +1,6 @@
 use native.Mathlib.Omega.{arith}
 use mathlib.Core.List.{[]}
-use Rattle.undos.proofs.Undoing.{class-in, taken-back-by}
+use Rattle.undos.proofs.Undoing.{class_in, taken_back_by}
 use borrow.Author.Rules.{rules}
 use Rattle.undos.proofs.take_back.Statement.{statement}
 use Rattle.undos.proofs.take_back.Tie as tie
@@ -39,7 +39,7 @@ sub-recount-2 : tie.Need-overflow-sub-recount-2
 sub-recount-2 c = rw (c.before.before.before.before.before.before.before.before.before.before.before.before.before.before.before.before.before.before.before.get3.ensures, c.before.before.before.before.before.before.before.before.before.before.before.before.before.before.before.before.before.before.before.before.before.before.before.get.ensures, c.before.before.before.before.before.before.before.before.before.before.weigh.ensures, c.before.before.before.before.before.before.before.before.before.before.before.before.before.before.exchange.ensures) c.before.before.before.before.before.before.before.before.before.before.before.before.before.before.before.before.before.before.before.before.before.before.before.before.before.before.before.before.requires.light
 
 recount-requires : tie.Need-recount-requires
-recount-requires c κs = rw (c.before.before.before.before.before.before.before.before.before.before.before.before.before.before.before.before.before.before.before.before.before.before.before.get.ensures, c.before.before.before.before.write-header.ensures) (class-in _ _ _ c.before.before.before.before.before.before.before.before.before.before.before.before.before.before.before.before.before.before.before.before.before.before.before.before.before.before.before.before.requires)
+recount-requires c κs = rw (c.before.before.before.before.before.before.before.before.before.before.before.before.before.before.before.before.before.before.before.before.before.before.before.get.ensures, c.before.before.before.before.write-header.ensures) (class_in _ _ _ c.before.before.before.before.before.before.before.before.before.before.before.before.before.before.before.before.before.before.before.before.before.before.before.before.before.before.before.before.requires)
 
 same_length : tie.Need-same-length
 same_length c = search rules
@@ -48,7 +48,7 @@ same-length-2 : tie.Need-same-length-2
 same-length-2 c = search rules
 
 returns : tie.Need-returns
-returns c = taken-back-by _ _ _ _ c.before.before.before.before.before.before.before.before.before.before.before.before.before.before.before.before.before.before.before.before.before.before.before.before.before.before.get.result c.before.before.before.before.before.before.before.before.before.before.before.before.before.before.before.before.before.before.before.before.before.before.before.before.get2.result c.before.before.before.before.before.before.before.before.before.before.before.before.before.before.before.before.before.before.before.before.before.before.get3.result c.before.before.before.before.before.before.before.before.before.before.before.before.before.weigh.result c.before.before.before.before.before.before.before.before.before.before.before.before.before.before.before.before.before.before.before.before.before.slot.result (c.before.before.before.before.before.before.before.before.before.before.before.before.before.before.before.before.before.before.before.take-header.ensures []) c.before.before.before.before.before.before.before.before.before.before.before.before.before.before.before.before.before.before.before.before.before.slot.ensures c.before.before.before.before.before.before.before.before.before.before.before.before.before.before.before.before.before.before.before.before.before.before.before.before.before.before.get.ensures c.before.before.before.before.before.before.before.before.before.before.before.before.before.before.before.before.before.before.before.before.before.before.before.before.get2.ensures c.before.before.before.before.before.before.before.before.before.before.before.before.before.before.before.before.before.before.before.before.before.before.get3.ensures (rw (c.before.before.before.before.before.before.before.before.before.before.before.before.before.weigh.ensures, c.before.before.before.before.before.before.before.before.before.before.before.before.before.before.before.before.before.exchange.ensures))
+returns c = taken_back_by _ _ _ _ c.before.before.before.before.before.before.before.before.before.before.before.before.before.before.before.before.before.before.before.before.before.before.before.before.before.before.get.result c.before.before.before.before.before.before.before.before.before.before.before.before.before.before.before.before.before.before.before.before.before.before.before.before.get2.result c.before.before.before.before.before.before.before.before.before.before.before.before.before.before.before.before.before.before.before.before.before.before.get3.result c.before.before.before.before.before.before.before.before.before.before.before.before.before.weigh.result c.before.before.before.before.before.before.before.before.before.before.before.before.before.before.before.before.before.before.before.before.before.slot.result (c.before.before.before.before.before.before.before.before.before.before.before.before.before.before.before.before.before.before.before.take-header.ensures []) c.before.before.before.before.before.before.before.before.before.before.before.before.before.before.before.before.before.before.before.before.before.slot.ensures c.before.before.before.before.before.before.before.before.before.before.before.before.before.before.before.before.before.before.before.before.before.before.before.before.before.before.get.ensures c.before.before.before.before.before.before.before.before.before.before.before.before.before.before.before.before.before.before.before.before.before.before.before.before.get2.ensures c.before.before.before.before.before.before.before.before.before.before.before.before.before.before.before.before.before.before.before.before.before.before.get3.ensures (rw (c.before.before.before.before.before.before.before.before.before.before.before.before.before.weigh.ensures, c.before.before.before.before.before.before.before.before.before.before.before.before.before.before.before.before.before.exchange.ensures))
     (rw (c.before.before.before.before.before.before.before.before.before.before.before.rewrite.ensures, c.before.before.before.before.before.before.before.before.before.before.before.before.before.before.before.before.before.exchange.ensures)) (rw (c.before.before.recount.ensures, c.before.before.before.before.before.before.before.write-header.ensures))
 
 pub take-back-spec : {M : Type 1} → statement M

@@ -1,6 +1,6 @@
 use native.Mathlib.Omega.{arith}
-use Rattle.slots.proofs.Live.{live_in, header-in, all_in}
-use Rattle.rules.proofs.laws.Safe.{safe}
+use Rattle.slots.proofs.Live.{live_in, header_in, all_in}
+use Rattle.rules.proofs.Laws.Safe.{safe}
 use Rattle.undos.proofs.Tracing.{not_none, not-past, not_free, not-sealed, not_more, kept-live, walked}
 use borrow.Author.Rules.{rules}
 use Rattle.undos.proofs.traces.Statement.{statement}
@@ -28,13 +28,13 @@ get-requires-2 : tie.Need-get-requires-2
 get-requires-2 c κs = let s = safe _ c.before.before.before.before.before.before.before.before.before.before.before.requires in search rules
 
 get-requires-3 : tie.Need-get-requires-3
-get-requires-3 c κs = let w = header-in _ _ (safe _ c.before.before.before.before.before.before.before.before.before.before.before.before.requires) (kept-live _ c.before.before.before.before.before.before.before.before.if1.false c.before.before.before.before.before.before.if2.false (rw c.before.before.before.before.before.get.ensures at c.before.before.before.before.if3.false)) in rw c.get2.ensures (search rules)
+get-requires-3 c κs = let w = header_in _ _ (safe _ c.before.before.before.before.before.before.before.before.before.before.before.before.requires) (kept-live _ c.before.before.before.before.before.before.before.before.if1.false c.before.before.before.before.before.before.if2.false (rw c.before.before.before.before.before.get.ensures at c.before.before.before.before.if3.false)) in rw c.get2.ensures (search rules)
 
 returns-6 : tie.Need-returns-6
 returns-6 c = not-sealed _ _ c.before.before.get2.ensures (rw c.before.get3.ensures at c.if6.true)
 
 get-requires-4 : tie.Need-get-requires-4
-get-requires-4 c κs = let w = header-in _ _ (safe _ c.before.before.before.before.before.before.before.before.before.before.before.before.before.before.requires) (kept-live _ c.before.before.before.before.before.before.before.before.before.before.if1.false c.before.before.before.before.before.before.before.before.if2.false (rw c.before.before.before.before.before.before.before.get.ensures at c.before.before.before.before.before.before.if3.false)) in rw c.before.before.get2.ensures (search rules)
+get-requires-4 c κs = let w = header_in _ _ (safe _ c.before.before.before.before.before.before.before.before.before.before.before.before.before.before.requires) (kept-live _ c.before.before.before.before.before.before.before.before.before.before.if1.false c.before.before.before.before.before.before.before.before.if2.false (rw c.before.before.before.before.before.before.before.get.ensures at c.before.before.before.before.before.before.if3.false)) in rw c.before.before.get2.ensures (search rules)
 
 returns-7 : tie.Need-returns-7
 returns-7 c = not_more _ _ _ c.before.before.before.before.get2.ensures c.before.get4.ensures (omega (arith, c.if7.true))

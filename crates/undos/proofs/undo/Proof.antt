@@ -1,5 +1,5 @@
 use Rattle.rules.specs.Tables.{state_of}
-use Rattle.rules.proofs.laws.Undone.{traced-memory}
+use Rattle.rules.proofs.Laws.Undone.{traced_memory}
 use Rattle.undos.proofs.Undoing.{undoable, undo-refused, undo-accepted}
 use borrow.Author.Rules.{rules}
 use Rattle.undos.proofs.undo.Statement.{statement}
@@ -9,7 +9,7 @@ returns : tie.Need-returns
 returns c = undo-refused (state_of c.before.before.before.before.before.args.head c.before.before.before.before.before.args.elems.now c.before.before.before.before.before.args.shared.now) c.if1.true
 
 take-back-requires : tie.Need-take-back-requires
-take-back-requires c κs = undoable _ c.before.before.before.before.before.before.before.requires.0 (traced-memory _ c.before.before.before.before.before.before.before.requires.0 c.before.before.before.before.before.before.before.requires.1 c.before.before.if1.false)
+take-back-requires c κs = undoable _ c.before.before.before.before.before.before.before.requires.0 (traced_memory _ c.before.before.before.before.before.before.before.requires.0 c.before.before.before.before.before.before.before.requires.1 c.before.before.if1.false)
 
 same_length : tie.Need-same-length
 same_length c = search rules

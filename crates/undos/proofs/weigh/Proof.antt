@@ -1,6 +1,6 @@
 use borrow.Author.Rules.{rules}
 use native.Mathlib.Omega.{arith}
-use Rattle.undos.proofs.Tracing.{Weighing, weighing-next, weighing-fits, weighing-done}
+use Rattle.undos.proofs.Tracing.{Weighing, weighing_next, weighing_fits, weighing_done}
 use Rattle.undos.proofs.weigh.Statement.{statement}
 use Rattle.undos.proofs.weigh.Tie as tie
 
@@ -21,7 +21,7 @@ get-requires-2 c κs = let w = c.before.before.loop.invariant.along.each 0 c.bef
 
 add-bytes : tie.Need-overflow-add-bytes invariant-loop decreases-loop
 add-bytes c =
-    let w = weighing-fits _ _ _ _ _ _ c.before.before.before.loop.invariant c.before.before.loop-test.true in
+    let w = weighing_fits _ _ _ _ _ _ c.before.before.before.loop.invariant c.before.before.loop-test.true in
     rw c.before.get.ensures (omega (arith, w, c.before.before.before.before.before.requires.1))
 
 sub-left : tie.Need-overflow-sub-left invariant-loop decreases-loop
@@ -31,10 +31,10 @@ loop-less : tie.Need-loop-smaller invariant-loop decreases-loop
 loop-less c = search rules
 
 loop-again : tie.Need-loop-preserved invariant-loop decreases-loop
-loop-again c = rw (c.get2.ensures, c.before.get.ensures) (weighing-next _ _ _ _ _ _ c.before.before.before.loop.invariant c.before.before.loop-test.true)
+loop-again c = rw (c.get2.ensures, c.before.get.ensures) (weighing_next _ _ _ _ _ _ c.before.before.before.loop.invariant c.before.before.loop-test.true)
 
 returns : tie.Need-returns invariant-loop decreases-loop
-returns c = weighing-done _ _ _ _ _ _ c.before.loop.invariant c.loop-test.false
+returns c = weighing_done _ _ _ _ _ _ c.before.loop.invariant c.loop-test.false
 
 pub weigh-spec : {M : Type 1} → statement M
 weigh-spec =

@@ -1,4 +1,4 @@
-use Rattle.unions.proofs.Joining.{next-in, joined_by, keeping-by}
+use Rattle.unions.proofs.Joining.{next_in, joined_by, keeping-by}
 use Rattle.slots.proofs.Live.{all_in}
 use borrow.Author.Rules.{rules}
 use Rattle.unions.proofs.join.Statement.{statement}
@@ -29,7 +29,7 @@ rewrite-requires : tie.Need-rewrite-requires
 rewrite-requires c κs = let o = c.before.before.before.before.before.before.before.before.before.before.before.before.before.before.before.before.before.requires.second in all_in _ _ _ o.safe o.live
 
 exchange-requires : tie.Need-exchange-requires
-exchange-requires c κs = rw c.before.before.before.rewrite.ensures (next-in _ _ _ _ _ c.before.before.before.before.before.before.before.before.before.before.before.before.before.before.before.before.before.before.before.before.before.requires.first, next-in _ _ _ _ _ c.before.before.before.before.before.before.before.before.before.before.before.before.before.before.before.before.before.before.before.before.before.requires.second)
+exchange-requires c κs = rw c.before.before.before.rewrite.ensures (next_in _ _ _ _ _ c.before.before.before.before.before.before.before.before.before.before.before.before.before.before.before.before.before.before.before.before.before.requires.first, next_in _ _ _ _ _ c.before.before.before.before.before.before.before.before.before.before.before.before.before.before.before.before.before.before.before.before.before.requires.second)
 
 add-recount : tie.Need-overflow-add-recount
 add-recount c = let p = c.before.before.before.before.before.before.before.before.before.before.before.before.before.before.before.before.before.before.before.before.before.before.before.before.before.requires in rw (c.before.before.before.before.before.before.before.before.before.before.before.before.before.before.before.get4.ensures, c.before.before.before.before.before.before.before.before.before.before.before.before.before.before.before.before.before.get3.ensures, c.before.before.before.before.before.before.before.before.before.before.before.before.before.before.before.before.before.before.before.get2.ensures, c.before.before.before.before.before.before.before.before.before.before.before.before.before.before.before.before.before.before.before.before.before.get.ensures) (search rules)

@@ -1,5 +1,5 @@
-use Rattle.rules.proofs.laws.Past.{wiped-whole}
-use Rattle.rules.specs.Tables.{frameWidth, headerWidth}
+use Rattle.rules.proofs.Laws.Past.{wiped_whole}
+use Rattle.rules.specs.Tables.{frame_width, header_width}
 use Rattle.rules.specs.Slots.{empty}
 use borrow.Author.Rules.{rules}
 use Rattle.wipes.proofs.blank.Statement.{statement}
@@ -31,7 +31,7 @@ same-length-2 c = search rules
 
 returns : tie.Need-returns
 unfolding empty
-returns c = let p = c.before.before.before.before.before.before.before.before.before.before.before.before.requires in rw (c.before.empty-pool.ensures, c.empty-pool2.ensures, c.before.before.before.before.before.before.before.before.zero.ensures, c.before.before.before.before.zero2.ensures, wiped-whole frameWidth _ _ _ p.0.long p.0.within p.0.zeros, wiped-whole headerWidth _ _ _ p.1.long p.1.within p.1.zeros)
+returns c = let p = c.before.before.before.before.before.before.before.before.before.before.before.before.requires in rw (c.before.empty-pool.ensures, c.empty-pool2.ensures, c.before.before.before.before.before.before.before.before.zero.ensures, c.before.before.before.before.zero2.ensures, wiped_whole frame_width _ _ _ p.0.long p.0.within p.0.zeros, wiped_whole header_width _ _ _ p.1.long p.1.within p.1.zeros)
 
 pub blank-spec : {M : Type 1} → statement M
 blank-spec =

@@ -1,7 +1,7 @@
 use Rattle.rules.specs.Drains.{clear, cleared}
 use Rattle.rules.specs.Slots.{overflows}
-use Rattle.rules.proofs.laws.Safe.{safe}
-use Rattle.rules.proofs.laws.Past.{past-elems, past-shared}
+use Rattle.rules.proofs.Laws.Safe.{safe}
+use Rattle.rules.proofs.Laws.Past.{past-elems, past-shared}
 use borrow.Author.Rules.{rules}
 use Rattle.wipes.proofs.clear.Statement.{statement}
 use Rattle.wipes.proofs.clear.Tie as tie

@@ -1,6 +1,6 @@
 use mathlib.Core.Path.{refl, ◌∙◌}
 use borrow.Author.Tests.{not-true, not-false}
-use Rattle.wipes.proofs.Wiping.{fresh-1, fresh-done, fit-past}
+use Rattle.wipes.proofs.Wiping.{fresh_1, fresh-done, fit_past}
 use borrow.Author.Rules.{rules}
 use Rattle.wipes.proofs.fresh.Statement.{statement}
 use Rattle.wipes.proofs.fresh.Tie as tie
@@ -15,10 +15,10 @@ same-length-2 : tie.Need-same-length-2
 same-length-2 c = search rules
 
 returns : tie.Need-returns
-returns c = fresh-1 _ _ _ _ (c.before.both-fit.ensures _ ∙ not-true _ c.if1.true) refl
+returns c = fresh_1 _ _ _ _ (c.before.both-fit.ensures _ ∙ not-true _ c.if1.true) refl
 
 blank-requires : tie.Need-blank-requires
-blank-requires c κs = fit-past _ _ _ _ (λ h. c.before.before.before.both-fit.ensures h ∙ not-false _ c.before.before.if1.false)
+blank-requires c κs = fit_past _ _ _ _ (λ h. c.before.before.before.both-fit.ensures h ∙ not-false _ c.before.before.if1.false)
 
 same-length-3 : tie.Need-same-length-3
 same-length-3 c = search rules

@@ -1,4 +1,4 @@
-use Rattle.host.proofs.Kit.{read-in}
+use Rattle.host.proofs.Kit.{read_in_lem}
 use borrow.Author.Rules.{rules}
 use Rattle.host.proofs.files.doorsedge_read_file.Statement.{statement}
 use Rattle.host.proofs.files.doorsedge_read_file.Tie as tie
@@ -22,7 +22,7 @@ same-length-2 : tie.Need-same-length-2
 same-length-2 c = search rules
 
 returns : tie.Need-returns
-returns c = read-in _ _ _ _ _ _ _ _ _ _ c.before.before.before.before.before.before.before.before.before.before.before.unpack.ensures _ c.before.before.before.before.before.before.before.before.read-file.ensures (c.before.before.plain.ensures _) c.store.ensures
+returns c = read_in_lem _ _ _ _ _ _ _ _ _ _ c.before.before.before.before.before.before.before.before.before.before.before.unpack.ensures _ c.before.before.before.before.before.before.before.before.read-file.ensures (c.before.before.plain.ensures _) c.store.ensures
 
 pub doorsedge-read-file-spec : {M : Type 1} → statement M
 doorsedge-read-file-spec =

@@ -7,7 +7,7 @@ use denote.Triple.Spec.{triple_of}
 use denote.Triple.Table.{entered, cited}
 use Rattle.rules.specs.Tables.{state_of}
 use Rattle.rules.specs.Calls.{AtDoor, insert}
-use Rattle.rules.specs.Answers.{leaves, saidInserted}
+use Rattle.rules.specs.Answers.{leaves, said_inserted}
 use Rattle.door_runs.proofs.insert.Symbol as callee
 use Rattle.door_runs.proofs.insert.Met as callee-thm
 use Rattle.inplace.proofs.InsertWalk.{Asks, Does, Stepped, in_place, meets}
@@ -20,7 +20,7 @@ abbrev asks : {M : Type 1} (𝓤 : Ura M) → Asks 𝓤
 asks 𝓤 h es ss = emp 𝓤
 
 abbrev does : Does
-does h es ss k v z h' r es' ss' = AtDoor (state_of h es ss) [] (insert k v z) (leaves h' es' ss' [] (saidInserted r))
+does h es ss k v z h' r es' ss' = AtDoor (state_of h es ss) [] (insert k v z) (leaves h' es' ss' [] (said_inserted r))
 
 pub insert-in-place-spec : {M : Type 1} → statement M
 unfolding code.routine tables_of

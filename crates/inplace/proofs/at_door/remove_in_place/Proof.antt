@@ -7,7 +7,7 @@ use denote.Triple.Spec.{triple_of}
 use denote.Triple.Table.{entered, cited}
 use Rattle.rules.specs.Tables.{state_of}
 use Rattle.rules.specs.Calls.{AtDoor, remove}
-use Rattle.rules.specs.Answers.{leaves, saidRemoved}
+use Rattle.rules.specs.Answers.{leaves, said_removed}
 use Rattle.door_runs.proofs.remove_element.Symbol as callee
 use Rattle.door_runs.proofs.remove_element.Met as callee-thm
 use Rattle.inplace.proofs.RemoveWalk.{Asks, Does, Stepped, in_place, meets}
@@ -20,7 +20,7 @@ abbrev asks : {M : Type 1} (𝓤 : Ura M) → Asks 𝓤
 asks 𝓤 h es ss = emp 𝓤
 
 abbrev does : Does
-does h es ss k h' r es' ss' = AtDoor (state_of h es ss) [] (remove k) (leaves h' es' ss' [] (saidRemoved r.answer r.over))
+does h es ss k h' r es' ss' = AtDoor (state_of h es ss) [] (remove k) (leaves h' es' ss' [] (said_removed r.answer r.over))
 
 pub remove-in-place-spec : {M : Type 1} → statement M
 unfolding code.routine tables_of

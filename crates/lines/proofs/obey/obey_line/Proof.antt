@@ -1,7 +1,7 @@
 -- `lines::obey::obey_line` meets its contract. Each way is a law on a call told, or on a ring listed.
-use Rattle.lines.proofs.Obeying.{told, listed, listed-places}
-use Rattle.rules.specs.Script.{keyText, unionText, removeText}
-use Rattle.rules.specs.Calls.{newRun, insert, union, remove}
+use Rattle.lines.proofs.Obeying.{told, listed, listed_places}
+use Rattle.rules.specs.Script.{key_text, union_text, remove_text}
+use Rattle.rules.specs.Calls.{new_run, insert, union, remove}
 use Rattle.rules.specs.Tables.{state_of}
 use native.Mathlib.Omega.{arith}
 use mathlib.Core.Path.{refl}
@@ -43,7 +43,7 @@ list-requires : tie.Need-list-requires
 list-requires c κs = search rules
 
 put-ring-requires : tie.Need-put-ring-requires
-put-ring-requires c κs = (omega (arith, c.before.before.before.before.before.before.before.before.before.before.before.before.before.before.before.requires.1, c.before.before.before.before.before.before.before.before.before.before.before.before.before.before.before.requires.2), listed-places (state_of c.before.before.before.before.before.before.before.before.before.before.before.before.before.before.before.args.head c.before.before.before.before.before.before.before.before.before.before.before.before.before.before.before.args.elems.now c.before.before.before.before.before.before.before.before.before.before.before.before.before.before.before.args.shared.now) c.before.before.before.before.before.before.before.before.before.line4.given.0.0 _ _ _ _ _ _ c.before.before.before.before.list.ensures)
+put-ring-requires c κs = (omega (arith, c.before.before.before.before.before.before.before.before.before.before.before.before.before.before.before.requires.1, c.before.before.before.before.before.before.before.before.before.before.before.before.before.before.before.requires.2), listed_places (state_of c.before.before.before.before.before.before.before.before.before.before.before.before.before.before.before.args.head c.before.before.before.before.before.before.before.before.before.before.before.before.before.before.before.args.elems.now c.before.before.before.before.before.before.before.before.before.before.before.before.before.before.before.args.shared.now) c.before.before.before.before.before.before.before.before.before.line4.given.0.0 _ _ _ _ _ _ c.before.before.before.before.list.ensures)
 
 enum-known-line-5 : tie.Need-enum-known-line-5
 enum-known-line-5 c = search rules
@@ -72,7 +72,7 @@ same-length-3 c = search rules
 returns : tie.Need-returns
 returns c =
     let st = state_of c.before.before.before.before.before.before.before.before.before.before.before.before.before.before.before.before.before.before.args.head c.before.before.before.before.before.before.before.before.before.before.before.before.before.before.before.before.before.before.args.elems.now c.before.before.before.before.before.before.before.before.before.before.before.before.before.before.before.before.before.before.args.shared.now in
-    rw c.before.before.before.before.before.before.before.before.before.before.before.before.line.given.1 (told st c.before.before.before.before.before.before.before.before.before.before.before.before.before.before.before.before.before.before.requires.0 keyText (newRun c.before.before.before.before.before.before.before.before.before.before.before.before.line.given.0.0 c.before.before.before.before.before.before.before.before.before.before.before.before.line.given.0.1.0 c.before.before.before.before.before.before.before.before.before.before.before.before.line.given.0.1.1.0) (λ o. refl) refl tt _ _ _ _ c.before.before.before.before.before.before.before.before.insert-surject.ensures c.before.before.tell-inserted.ensures (omega arith))
+    rw c.before.before.before.before.before.before.before.before.before.before.before.before.line.given.1 (told st c.before.before.before.before.before.before.before.before.before.before.before.before.before.before.before.before.before.before.requires.0 key_text (new_run c.before.before.before.before.before.before.before.before.before.before.before.before.line.given.0.0 c.before.before.before.before.before.before.before.before.before.before.before.before.line.given.0.1.0 c.before.before.before.before.before.before.before.before.before.before.before.before.line.given.0.1.1.0) (λ o. refl) refl tt _ _ _ _ c.before.before.before.before.before.before.before.before.insert-surject.ensures c.before.before.tell-inserted.ensures (omega arith))
 
 same-length-4 : tie.Need-same-length-4
 same-length-4 c = search rules
@@ -86,7 +86,7 @@ same-length-6 c = search rules
 returns-2 : tie.Need-returns-2
 returns-2 c =
     let st = state_of c.before.before.before.before.before.before.before.before.before.before.before.before.before.before.before.before.before.before.args.head c.before.before.before.before.before.before.before.before.before.before.before.before.before.before.before.before.before.before.args.elems.now c.before.before.before.before.before.before.before.before.before.before.before.before.before.before.before.before.before.before.args.shared.now in
-    rw c.before.before.before.before.before.before.before.before.before.before.before.before.line2.given.1 (told st c.before.before.before.before.before.before.before.before.before.before.before.before.before.before.before.before.before.before.requires.0 keyText (insert c.before.before.before.before.before.before.before.before.before.before.before.before.line2.given.0.0 c.before.before.before.before.before.before.before.before.before.before.before.before.line2.given.0.1.0 c.before.before.before.before.before.before.before.before.before.before.before.before.line2.given.0.1.1.0) (λ o. refl) refl tt _ _ _ _ c.before.before.before.before.before.before.before.before.insert.ensures c.before.before.tell-inserted2.ensures (omega arith))
+    rw c.before.before.before.before.before.before.before.before.before.before.before.before.line2.given.1 (told st c.before.before.before.before.before.before.before.before.before.before.before.before.before.before.before.before.before.before.requires.0 key_text (insert c.before.before.before.before.before.before.before.before.before.before.before.before.line2.given.0.0 c.before.before.before.before.before.before.before.before.before.before.before.before.line2.given.0.1.0 c.before.before.before.before.before.before.before.before.before.before.before.before.line2.given.0.1.1.0) (λ o. refl) refl tt _ _ _ _ c.before.before.before.before.before.before.before.before.insert.ensures c.before.before.tell-inserted2.ensures (omega arith))
 
 same-length-7 : tie.Need-same-length-7
 same-length-7 c = search rules
@@ -100,7 +100,7 @@ same-length-9 c = search rules
 returns-3 : tie.Need-returns-3
 returns-3 c =
     let st = state_of c.before.before.before.before.before.before.before.before.before.before.before.before.before.before.before.before.before.before.args.head c.before.before.before.before.before.before.before.before.before.before.before.before.before.before.before.before.before.before.args.elems.now c.before.before.before.before.before.before.before.before.before.before.before.before.before.before.before.before.before.before.args.shared.now in
-    rw c.before.before.before.before.before.before.before.before.before.before.before.before.line3.given.1 (told st c.before.before.before.before.before.before.before.before.before.before.before.before.before.before.before.before.before.before.requires.0 unionText (union c.before.before.before.before.before.before.before.before.before.before.before.before.line3.given.0.0 c.before.before.before.before.before.before.before.before.before.before.before.before.line3.given.0.1.0) (λ o. refl) refl tt _ _ _ _ c.before.before.before.before.before.before.before.before.union.ensures c.before.before.tell-joined.ensures (omega arith))
+    rw c.before.before.before.before.before.before.before.before.before.before.before.before.line3.given.1 (told st c.before.before.before.before.before.before.before.before.before.before.before.before.before.before.before.before.before.before.requires.0 union_text (union c.before.before.before.before.before.before.before.before.before.before.before.before.line3.given.0.0 c.before.before.before.before.before.before.before.before.before.before.before.before.line3.given.0.1.0) (λ o. refl) refl tt _ _ _ _ c.before.before.before.before.before.before.before.before.union.ensures c.before.before.tell-joined.ensures (omega arith))
 
 same-length-10 : tie.Need-same-length-10
 same-length-10 c = search rules
@@ -131,7 +131,7 @@ same-length-16 c = search rules
 returns-5 : tie.Need-returns-5
 returns-5 c =
     let st = state_of c.before.before.before.before.before.before.before.before.before.before.before.before.before.before.before.before.before.before.args.head c.before.before.before.before.before.before.before.before.before.before.before.before.before.before.before.before.before.before.args.elems.now c.before.before.before.before.before.before.before.before.before.before.before.before.before.before.before.before.before.before.args.shared.now in
-    rw c.before.before.before.before.before.before.before.before.before.before.before.before.line5.given.1 (told st c.before.before.before.before.before.before.before.before.before.before.before.before.before.before.before.before.before.before.requires.0 removeText (remove c.before.before.before.before.before.before.before.before.before.before.before.before.line5.given.0.0) (λ o. refl) refl tt _ _ _ _ c.before.before.before.before.before.before.before.before.remove-element.ensures c.before.before.tell-removed.ensures (omega arith))
+    rw c.before.before.before.before.before.before.before.before.before.before.before.before.line5.given.1 (told st c.before.before.before.before.before.before.before.before.before.before.before.before.before.before.before.before.before.before.requires.0 remove_text (remove c.before.before.before.before.before.before.before.before.before.before.before.before.line5.given.0.0) (λ o. refl) refl tt _ _ _ _ c.before.before.before.before.before.before.before.before.remove-element.ensures c.before.before.tell-removed.ensures (omega arith))
 
 same-length-17 : tie.Need-same-length-17
 same-length-17 c = search rules

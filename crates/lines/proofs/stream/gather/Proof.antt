@@ -3,7 +3,7 @@ use Prim.Native.Nat.{◌-◌}
 use borrow.Author.Rules.{rules}
 use native.Mathlib.Omega.{arith}
 use lib.ListN.{length}
-use Rattle.lines.proofs.Gathering.{Gathering, gathering-start, gathering-next, gathered-line, gathered-part}
+use Rattle.lines.proofs.Gathering.{Gathering, gathering_start, gathering_next, gathered_line, gathered_part}
 use Rattle.lines.proofs.stream.gather.Statement.{statement}
 use Rattle.lines.proofs.stream.gather.Tie as tie
 
@@ -14,7 +14,7 @@ abbrev decreases-loop : tie.decreases-loop
 decreases-loop block at line₀ held i₀ kept₀ line i kept = length block - i
 
 loop-holds : tie.Need-loop-init invariant-loop decreases-loop
-loop-holds c = gathering-start _ _ _ _ c.before.before.requires.0 c.before.before.requires.1
+loop-holds c = gathering_start _ _ _ _ c.before.before.requires.0 c.before.before.requires.1
 
 shared-slice-read-b : tie.Need-shared-slice-read-b invariant-loop decreases-loop
 shared-slice-read-b c = search rules
@@ -26,7 +26,7 @@ same_length : tie.Need-same-length invariant-loop decreases-loop
 same_length c = search rules
 
 returns : tie.Need-returns invariant-loop decreases-loop
-returns c = gathered-line _ _ _ _ c.before.before.before.loop.invariant c.before.before.loop-test.true c.if1.true
+returns c = gathered_line _ _ _ _ c.before.before.before.loop.invariant c.before.before.loop-test.true c.if1.true
 
 keep-requires : tie.Need-keep-requires invariant-loop decreases-loop
 keep-requires c κs = omega (arith, c.before.before.before.before.loop.invariant.room, c.before.before.before.before.loop.invariant.long)
@@ -38,13 +38,13 @@ loop-less : tie.Need-loop-smaller invariant-loop decreases-loop
 loop-less c = search rules
 
 loop-again : tie.Need-loop-preserved invariant-loop decreases-loop
-loop-again c = gathering-next _ _ _ _ c.before.before.before.before.before.before.before.loop.invariant c.before.before.before.before.before.before.loop-test.true c.before.before.before.before.if1.false c.before.before.keep.ensures
+loop-again c = gathering_next _ _ _ _ c.before.before.before.before.before.before.before.loop.invariant c.before.before.before.before.before.before.loop-test.true c.before.before.before.before.if1.false c.before.before.keep.ensures
 
 same-length-2 : tie.Need-same-length-2 invariant-loop decreases-loop
 same-length-2 c = search rules
 
 returns-2 : tie.Need-returns-2 invariant-loop decreases-loop
-returns-2 c = gathered-part _ _ _ _ c.before.loop.invariant c.loop-test.false
+returns-2 c = gathered_part _ _ _ _ c.before.loop.invariant c.loop-test.false
 
 pub gather-spec : {M : Type 1} → statement M
 gather-spec =

@@ -1,5 +1,5 @@
 -- `lines::stream::keep` meets its contract.
-use Rattle.lines.proofs.Gathering.{keep-room, keep-full}
+use Rattle.lines.proofs.Gathering.{keep-room, keep_full}
 use borrow.Author.Rules.{rules}
 use Rattle.lines.proofs.stream.keep.Statement.{statement}
 use Rattle.lines.proofs.stream.keep.Tie as tie
@@ -17,7 +17,7 @@ returns : tie.Need-returns
 returns c = keep-room _ _ _ c.if1.true
 
 returns-2 : tie.Need-returns-2
-returns-2 c = keep-full _ _ _ c.before.requires c.if1.false
+returns-2 c = keep_full _ _ _ c.before.requires c.if1.false
 
 pub keep_spec : {M : Type 1} → statement M
 keep_spec = tie.close (tie.spec slice-write-line add-result same_length returns returns-2)

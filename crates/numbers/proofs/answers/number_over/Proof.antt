@@ -1,5 +1,5 @@
 use Rattle.rules.specs.declared.Number.{Number}
-use Rattle.rules.specs.Answers.{saidNumber}
+use Rattle.rules.specs.Answers.{said_number}
 use Rattle.numbers.proofs.Told.{accepted, refused}
 use mathlib.Core.Path.{ap}
 use borrow.Author.Rules.{rules}
@@ -19,10 +19,10 @@ result-of-requires : tie.Need-result-of-requires
 result-of-requires c κs = search rules
 
 returns : tie.Need-returns
-returns c = rw c.before.number-if.ensures (accepted _ _ _ _ _ (ap (λ (a : Number). saidNumber a c.before.before.before.before.before.args.over) c.before.before.before.answer.given.1))
+returns c = rw c.before.number-if.ensures (accepted _ _ _ _ _ (ap (λ (a : Number). said_number a c.before.before.before.before.before.args.over) c.before.before.before.answer.given.1))
 
 returns-2 : tie.Need-returns-2
-returns-2 c = refused _ _ c.before.before.answer2.given.0.0 _ _ _ _ (ap (λ (a : Number). saidNumber a c.before.before.before.before.args.over) c.before.before.answer2.given.1) c.result-of.ensures
+returns-2 c = refused _ _ c.before.before.answer2.given.0.0 _ _ _ _ (ap (λ (a : Number). said_number a c.before.before.before.before.args.over) c.before.before.answer2.given.1) c.result-of.ensures
 
 pub number-over-spec : {M : Type 1} → statement M
 number-over-spec =

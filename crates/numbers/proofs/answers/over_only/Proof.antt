@@ -1,5 +1,5 @@
 use Rattle.rules.specs.declared.Done.{Done}
-use Rattle.rules.specs.Answers.{saidDone}
+use Rattle.rules.specs.Answers.{said_done}
 use Rattle.numbers.proofs.Told.{accepted, refused}
 use mathlib.Core.Path.{ap}
 use borrow.Author.Rules.{rules}
@@ -19,10 +19,10 @@ result-of-requires : tie.Need-result-of-requires
 result-of-requires c κs = search rules
 
 returns : tie.Need-returns
-returns c = rw c.before.number-if.ensures (accepted _ _ _ _ _ (ap (λ (a : Done). saidDone a c.before.before.before.before.args.over) c.before.before.enum_told.given.1))
+returns c = rw c.before.number-if.ensures (accepted _ _ _ _ _ (ap (λ (a : Done). said_done a c.before.before.before.before.args.over) c.before.before.enum_told.given.1))
 
 returns-2 : tie.Need-returns-2
-returns-2 c = refused _ _ c.before.before.answer.given.0.0 _ _ _ _ (ap (λ (a : Done). saidDone a c.before.before.before.before.args.over) c.before.before.answer.given.1) c.result-of.ensures
+returns-2 c = refused _ _ c.before.before.answer.given.0.0 _ _ _ _ (ap (λ (a : Done). said_done a c.before.before.before.before.args.over) c.before.before.answer.given.1) c.result-of.ensures
 
 pub over-only-spec : {M : Type 1} → statement M
 over-only-spec =

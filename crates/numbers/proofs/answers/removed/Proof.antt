@@ -2,7 +2,7 @@ use Rattle.rules.specs.declared.Removed.TheVariants.{Out}
 use Rattle.rules.specs.declared.Rest.{Rest}
 use mathlib.Core.Path.{◌∙◌}
 use Rattle.rules.specs.declared.Removed.{Removed}
-use Rattle.rules.specs.Answers.{saidRemoved}
+use Rattle.rules.specs.Answers.{said_removed}
 use Rattle.numbers.proofs.Told.{accepted, refused}
 use mathlib.Core.Path.{ap}
 use borrow.Author.Rules.{rules}
@@ -28,13 +28,13 @@ result-of-requires : tie.Need-result-of-requires
 result-of-requires c κs = search rules
 
 returns : tie.Need-returns
-returns c = rw c.before.before.before.number-if.ensures (accepted _ _ _ _ _ (ap (λ (a : Removed). saidRemoved a c.before.before.before.before.before.before.before.args.over) c.before.before.before.before.before.answer.given.1 ∙ ap (λ (q : Rest). saidRemoved (Out c.before.before.before.before.before.answer.given.0.0 q) c.before.before.before.before.before.before.before.args.over) c.before.enum_told.given.1))
+returns c = rw c.before.before.before.number-if.ensures (accepted _ _ _ _ _ (ap (λ (a : Removed). said_removed a c.before.before.before.before.before.before.before.args.over) c.before.before.before.before.before.answer.given.1 ∙ ap (λ (q : Rest). said_removed (Out c.before.before.before.before.before.answer.given.0.0 q) c.before.before.before.before.before.before.before.args.over) c.before.enum_told.given.1))
 
 returns-2 : tie.Need-returns-2
-returns-2 c = rw c.before.before.before.before.number-if.ensures (accepted _ _ _ _ _ (ap (λ (a : Removed). saidRemoved a c.before.before.before.before.before.before.before.before.args.over) c.before.before.before.before.before.before.answer.given.1 ∙ ap (λ (q : Rest). saidRemoved (Out c.before.before.before.before.before.before.answer.given.0.0 q) c.before.before.before.before.before.before.before.before.args.over) c.before.before.rest.given.1))
+returns-2 c = rw c.before.before.before.before.number-if.ensures (accepted _ _ _ _ _ (ap (λ (a : Removed). said_removed a c.before.before.before.before.before.before.before.before.args.over) c.before.before.before.before.before.before.answer.given.1 ∙ ap (λ (q : Rest). said_removed (Out c.before.before.before.before.before.before.answer.given.0.0 q) c.before.before.before.before.before.before.before.before.args.over) c.before.before.rest.given.1))
 
 returns-3 : tie.Need-returns-3
-returns-3 c = refused _ _ c.before.before.answer2.given.0.0 _ _ _ _ (ap (λ (a : Removed). saidRemoved a c.before.before.before.before.args.over) c.before.before.answer2.given.1) c.result-of.ensures
+returns-3 c = refused _ _ c.before.before.answer2.given.0.0 _ _ _ _ (ap (λ (a : Removed). said_removed a c.before.before.before.before.args.over) c.before.before.answer2.given.1) c.result-of.ensures
 
 pub removed-spec : {M : Type 1} → statement M
 removed-spec =

@@ -1,4 +1,4 @@
-use Rattle.rules.specs.Answers.{saidSeal}
+use Rattle.rules.specs.Answers.{said_seal}
 use Rattle.numbers.proofs.Told.{accepted, refused}
 use mathlib.Core.Path.{ap}
 use borrow.Author.Rules.{rules}
@@ -15,10 +15,10 @@ result-of-requires : tie.Need-result-of-requires
 result-of-requires c κs = search rules
 
 returns : tie.Need-returns
-returns c = accepted _ _ _ _ _ (ap saidSeal c.before.before.answer.given.1)
+returns c = accepted _ _ _ _ _ (ap said_seal c.before.before.answer.given.1)
 
 returns-2 : tie.Need-returns-2
-returns-2 c = refused _ _ c.before.before.answer2.given.0.0 _ _ _ _ (ap saidSeal c.before.before.answer2.given.1) c.result-of.ensures
+returns-2 c = refused _ _ c.before.before.answer2.given.0.0 _ _ _ _ (ap said_seal c.before.before.answer2.given.1) c.result-of.ensures
 
 pub sealed-spec : {M : Type 1} → statement M
 sealed-spec =

@@ -1,9 +1,9 @@
 use mathlib.Core.Path.{◌∙◌}
 use native.Mathlib.Omega.{arith}
 use Rattle.slots.proofs.Live.{on-live}
-use Rattle.rules.proofs.laws.Safe.{safe}
-use Rattle.slots.proofs.Live.{header-in}
-use Rattle.rings.proofs.Freeing.{ring-apart, emptied-shared, freed-generation, ring-removed, removeShared-3}
+use Rattle.rules.proofs.Laws.Safe.{safe}
+use Rattle.slots.proofs.Live.{header_in}
+use Rattle.rings.proofs.Freeing.{ring-apart, emptied_shared, freed-generation, ring-removed, remove_shared-3}
 use borrow.Author.Rules.{rules}
 use Rattle.rings.proofs.frees.remove_shared.Statement.{statement}
 use Rattle.rings.proofs.frees.remove_shared.Tie as tie
@@ -21,7 +21,7 @@ same_length : tie.Need-same-length
 same_length c = search rules
 
 returns : tie.Need-returns
-returns c = removeShared-3 _ _ ((c.before.before.before.find.ensures _).same ∙ c.before.cause.given.1)
+returns c = remove_shared-3 _ _ ((c.before.before.before.find.ensures _).same ∙ c.before.cause.given.1)
 
 get-requires : tie.Need-get-requires
 get-requires c κs = let l = on-live _ _ _ _ c.before.before.before.before.before.before.before.before.requires (c.before.before.before.before.find.ensures _) c.before.before.x.given.1 in search rules
@@ -33,10 +33,10 @@ get-requires-3 : tie.Need-get-requires-3
 get-requires-3 c κs = let l = on-live _ _ _ _ c.before.before.before.before.before.before.before.before.before.before.before.before.requires (c.before.before.before.before.before.before.before.before.find.ensures _) c.before.before.before.before.before.before.x.given.1 in rw c.before.before.before.get.ensures (search rules)
 
 free-ring-requires : tie.Need-free-ring-requires
-free-ring-requires c κs = let l = on-live _ _ _ _ c.before.before.before.before.before.before.before.before.before.before.before.before.before.before.requires (c.before.before.before.before.before.before.before.before.before.before.find.ensures _) c.before.before.before.before.before.before.before.before.x.given.1 in rw (c.before.before.before.get2.ensures, c.before.before.before.before.before.get.ensures) (ring-apart _ _ c.before.before.before.before.before.before.before.before.before.before.before.before.before.before.requires l.live, l.frame.count-in)
+free-ring-requires c κs = let l = on-live _ _ _ _ c.before.before.before.before.before.before.before.before.before.before.before.before.before.before.requires (c.before.before.before.before.before.before.before.before.before.before.find.ensures _) c.before.before.before.before.before.before.before.before.x.given.1 in rw (c.before.before.before.get2.ensures, c.before.before.before.before.before.get.ensures) (ring-apart _ _ c.before.before.before.before.before.before.before.before.before.before.before.before.before.before.requires l.live, l.frame.count_in)
 
 free-header-requires : tie.Need-free-header-requires
-free-header-requires c κs = let l = on-live _ _ _ _ c.before.before.before.before.before.before.before.before.before.before.before.before.before.before.before.before.before.before.requires (c.before.before.before.before.before.before.before.before.before.before.before.before.before.before.find.ensures _) c.before.before.before.before.before.before.before.before.before.before.before.before.x.given.1 in (rw c.before.before.before.before.before.before.before.before.before.get.ensures (header-in _ _ l.safe l.live), rw (emptied-shared _ _ _ 0 _ _ (c.before.before.before.free-ring.ensures c.before.before.before.before.before.before.before.before.before.before.before.before.before.before.before.before.before.before.args.shared.now)) l.frame.shared-live)
+free-header-requires c κs = let l = on-live _ _ _ _ c.before.before.before.before.before.before.before.before.before.before.before.before.before.before.before.before.before.before.requires (c.before.before.before.before.before.before.before.before.before.before.before.before.before.before.find.ensures _) c.before.before.before.before.before.before.before.before.before.before.before.before.x.given.1 in (rw c.before.before.before.before.before.before.before.before.before.get.ensures (header_in _ _ l.safe l.live), rw (emptied_shared _ _ _ 0 _ _ (c.before.before.before.free-ring.ensures c.before.before.before.before.before.before.before.before.before.before.before.before.before.before.before.before.before.before.args.shared.now)) l.frame.shared-live)
 
 raise-requires : tie.Need-raise-requires
 raise-requires c κs = let s = safe _ c.before.before.before.before.before.before.before.before.before.before.before.before.before.before.before.before.before.before.before.before.before.requires in rw (freed-generation _ _ _ _ _ _ (c.before.before.before.before.before.before.free-ring.ensures _) _ _ (c.before.before.free-header.ensures _)) s.generation

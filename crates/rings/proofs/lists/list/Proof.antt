@@ -1,9 +1,9 @@
 use mathlib.Core.Path.{◌∙◌}
 use native.Mathlib.Omega.{arith}
 use Rattle.slots.proofs.Live.{on-live}
-use Rattle.rules.proofs.laws.Safe.{safe}
+use Rattle.rules.proofs.Laws.Safe.{safe}
 use Rattle.slots.proofs.Live.{all_in}
-use Rattle.rings.proofs.Listing.{list-3, list-7, list_done}
+use Rattle.rings.proofs.Listing.{list_3, list_7, list_done}
 use borrow.Author.Rules.{rules}
 use Rattle.rings.proofs.lists.list.Statement.{statement}
 use Rattle.rings.proofs.lists.list.Tie as tie
@@ -18,7 +18,7 @@ enum-known-cause : tie.Need-enum-known-cause
 enum-known-cause c = search rules
 
 returns : tie.Need-returns
-returns c = list-3 _ _ _ ((c.before.before.before.find.ensures _).same ∙ c.before.cause.given.1)
+returns c = list_3 _ _ _ ((c.before.before.before.find.ensures _).same ∙ c.before.cause.given.1)
 
 size-at-requires : tie.Need-size-at-requires
 size-at-requires c κs = on-live _ _ _ _ c.before.before.before.before.before.before.before.requires (c.before.before.before.find.ensures _) c.before.x.given.1
@@ -27,7 +27,7 @@ mul-if1 : tie.Need-overflow-mul-if1
 mul-if1 c = let l = on-live _ _ _ _ c.before.before.before.before.before.before.before.before.requires (c.before.before.before.before.find.ensures _) c.before.before.x.given.1 in record { fits = rw c.size-at.ensures (omega arith) }
 
 returns-2 : tie.Need-returns-2
-returns-2 c = list-7 _ _ _ _ ((c.before.before.before.before.before.find.ensures _).same ∙ c.before.before.before.x.given.1) (rw (← c.before.size-at.ensures) c.if1.true)
+returns-2 c = list_7 _ _ _ _ ((c.before.before.before.before.before.find.ensures _).same ∙ c.before.before.before.x.given.1) (rw (← c.before.size-at.ensures) c.if1.true)
 
 write-keys-requires : tie.Need-write-keys-requires
 write-keys-requires c κs = let l = on-live _ _ _ _ c.before.before.before.before.before.before.before.before.before.before.requires (c.before.before.before.before.before.before.find.ensures _) c.before.before.before.before.x.given.1 in (all_in _ _ _ l.safe l.live, c.before.if1.false)

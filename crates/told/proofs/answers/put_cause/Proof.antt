@@ -1,5 +1,5 @@
 -- `told::answers::put_cause` meets its contract.
-use Rattle.told.proofs.Texts.{cause-text}
+use Rattle.told.proofs.Texts.{cause_text_lem}
 use Rattle.told.proofs.Puts.{put-none, put_last, put_same}
 use borrow.Author.Rules.{rules}
 use Rattle.told.proofs.answers.put_cause.Statement.{statement}
@@ -30,7 +30,7 @@ same_length : tie.Need-same-length
 same_length c = search rules
 
 returns-2 : tie.Need-returns-2
-returns-2 c = (put_same (cause-text _ c.before.before.before.before.before.if1.false c.before.before.before.before.before.before.before.requires.1) (put_last _ _ _ _ _ _ c.before.before.put-text.ensures), search rules)
+returns-2 c = (put_same (cause_text_lem _ c.before.before.before.before.before.if1.false c.before.before.before.before.before.before.before.requires.1) (put_last _ _ _ _ _ _ c.before.before.put-text.ensures), search rules)
 
 pub put-cause-spec : {M : Type 1} → statement M
 put-cause-spec =

@@ -1,8 +1,8 @@
 -- `lines::answers::put_inserted` meets its contract.
 use mathlib.Core.Bool.{false}
 use mathlib.Core.List.{[]}
-use Rattle.rules.specs.Script.{keyText}
-use Rattle.told.proofs.Texts.{text-refused}
+use Rattle.rules.specs.Script.{key_text}
+use Rattle.told.proofs.Texts.{text_refused}
 use Rattle.told.proofs.Puts.{put_then, put_same}
 use borrow.Author.Rules.{rules}
 use Rattle.told.proofs.answers.put_inserted.Statement.{statement}
@@ -40,7 +40,7 @@ same-length-2 c = search rules
 returns-2 : tie.Need-returns-2
 returns-2 c =
     rw c.before.before.before.before.before.answer2.given.1
-    (put_same (text-refused keyText c.before.before.before.before.before.answer2.given.0.0 false []) c.before.before.put-refusal.ensures.0, search rules)
+    (put_same (text_refused key_text c.before.before.before.before.before.answer2.given.0.0 false []) c.before.before.put-refusal.ensures.0, search rules)
 
 pub put-inserted-spec : {M : Type 1} → statement M
 put-inserted-spec =

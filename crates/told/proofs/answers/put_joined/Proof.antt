@@ -1,9 +1,9 @@
 -- `lines::answers::put_joined` meets its contract.
-use Rattle.rules.specs.Script.{unionText}
-use Rattle.told.proofs.Texts.{text-refused}
+use Rattle.rules.specs.Script.{union_text}
+use Rattle.told.proofs.Texts.{text_refused}
 use mathlib.Core.Bool.{false}
 use mathlib.Core.List.{[]}
-use Rattle.told.proofs.Puts.{put_then, put-key-then, put_same}
+use Rattle.told.proofs.Puts.{put_then, put_key_then, put_same}
 use borrow.Author.Rules.{rules}
 use Rattle.told.proofs.answers.put_joined.Statement.{statement}
 use Rattle.told.proofs.answers.put_joined.Tie as tie
@@ -51,7 +51,7 @@ returns : tie.Need-returns
 returns c =
     let start = put_then (put_then c.before.before.before.before.before.before.before.before.before.before.before.before.before.before.before.before.before.before.before.before.before.before.before.before.put-text.ensures c.before.before.before.before.before.before.before.before.before.before.before.before.before.before.before.before.before.before.before.before.put-decimal.ensures.0) c.before.before.before.before.before.before.before.before.before.before.before.before.before.before.before.put-text2.ensures in
     rw c.before.before.before.before.before.before.before.before.before.before.before.before.before.before.before.before.before.before.before.before.before.before.before.before.before.before.before.before.answer.given.1
-    (put_then (put_then (put-key-then _ start c.before.before.before.before.before.before.before.before.before.before.before.put-key.ensures.0) c.before.before.before.before.before.before.put-text3.ensures) c.before.before.put-decimal2.ensures.0, search rules)
+    (put_then (put_then (put_key_then _ start c.before.before.before.before.before.before.before.before.before.before.before.put-key.ensures.0) c.before.before.before.before.before.before.put-text3.ensures) c.before.before.put-decimal2.ensures.0, search rules)
 
 same-length-2 : tie.Need-same-length-2
 same-length-2 c = search rules
@@ -59,7 +59,7 @@ same-length-2 c = search rules
 returns-2 : tie.Need-returns-2
 returns-2 c =
     rw c.before.before.before.before.before.answer2.given.1
-    (put_same (text-refused unionText c.before.before.before.before.before.answer2.given.0.0 false []) c.before.before.put-refusal.ensures.0, search rules)
+    (put_same (text_refused union_text c.before.before.before.before.before.answer2.given.0.0 false []) c.before.before.put-refusal.ensures.0, search rules)
 
 pub put-joined-spec : {M : Type 1} → statement M
 put-joined-spec =

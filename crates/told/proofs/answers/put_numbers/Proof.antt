@@ -1,5 +1,5 @@
 -- `lines::answers::put_numbers` meets its contract. The invariant: the first `i` numbers are written, each after a space.
-use Rattle.told.proofs.Puts.{Written, put-none, written-more}
+use Rattle.told.proofs.Puts.{Written, put-none, written_more}
 use Rattle.rules.specs.Script.{space}
 use borrow.Author.Rules.{rules}
 use native.Mathlib.Omega.{arith}
@@ -40,7 +40,7 @@ loop-less : tie.Need-loop-smaller invariant-loop decreases-loop
 loop-less c = omega (arith, c.before.before.before.before.before.before.before.before.before.before.loop-test.true)
 
 loop-again : tie.Need-loop-preserved invariant-loop decreases-loop
-loop-again c = (search rules, c.before.before.before.before.before.before.before.before.before.before.before.loop.invariant.1, written-more c.before.before.before.before.before.before.before.before.before.before.before.loop.invariant.2 (omega (arith, c.before.before.before.before.before.before.before.before.before.before.before.before.before.before.requires.0, c.before.before.before.before.before.before.before.before.before.before.loop-test.true)) c.before.before.before.before.before.before.before.put-text.ensures c.before.before.put-decimal.ensures.0 c.before.before.put-decimal.ensures.1 (omega (arith, c.before.before.before.before.before.before.before.before.before.before.before.loop.invariant.2.long)))
+loop-again c = (search rules, c.before.before.before.before.before.before.before.before.before.before.before.loop.invariant.1, written_more c.before.before.before.before.before.before.before.before.before.before.before.loop.invariant.2 (omega (arith, c.before.before.before.before.before.before.before.before.before.before.before.before.before.before.requires.0, c.before.before.before.before.before.before.before.before.before.before.loop-test.true)) c.before.before.before.before.before.before.before.put-text.ensures c.before.before.put-decimal.ensures.0 c.before.before.put-decimal.ensures.1 (omega (arith, c.before.before.before.before.before.before.before.before.before.before.before.loop.invariant.2.long)))
 
 same_length : tie.Need-same-length invariant-loop decreases-loop
 same_length c = search rules

@@ -1,5 +1,5 @@
 -- `told::answers::put_refusal` meets its contract.
-use Rattle.told.proofs.Texts.{two_digits, one-cause}
+use Rattle.told.proofs.Texts.{two_digits, one_cause}
 use Rattle.told.proofs.Puts.{put_then, put_same}
 use Rattle.numbers.proofs.Told.{few}
 use native.Mathlib.Omega.{arith}
@@ -34,7 +34,7 @@ same_length c = search rules
 returns : tie.Need-returns
 returns c =
     let p = rw c.before.before.before.before.before.before.before.before.number_of_lem.ensures at c.before.before.before.before.before.before.before.put-decimal.ensures.0 in
-    let q = rw (c.before.before.before.cause-of.ensures, one-cause c.before.before.before.before.before.before.before.before.before.before.before.before.before.before.before.before.args.refusal) at c.before.before.put-cause.ensures.0 in
+    let q = rw (c.before.before.before.cause-of.ensures, one_cause c.before.before.before.before.before.before.before.before.before.before.before.before.before.before.before.before.args.refusal) at c.before.before.put-cause.ensures.0 in
     (put_then (put_then c.before.before.before.before.before.before.before.before.before.before.before.before.put-text.ensures p) q, omega (arith, two_digits c.before.before.before.before.before.before.before.before.before.before.before.before.before.before.before.before.args.refusal, p.past, c.before.before.before.before.before.before.before.before.before.before.before.before.put-text.ensures.past, c.before.before.put-cause.ensures.1))
 
 pub put-refusal-spec : {M : Type 1} → statement M

@@ -1,6 +1,6 @@
 -- `lines::answers::put_removed` meets its contract.
-use Rattle.rules.specs.Script.{removeText}
-use Rattle.told.proofs.Texts.{text-refused}
+use Rattle.rules.specs.Script.{remove_text}
+use Rattle.told.proofs.Texts.{text_refused}
 use mathlib.Core.List.{[]}
 use Rattle.told.proofs.Puts.{put_then, put_same, put-none}
 use borrow.Author.Rules.{rules}
@@ -56,7 +56,7 @@ same-length-3 c = search rules
 returns-3 : tie.Need-returns-3
 returns-3 c =
     rw c.before.before.before.before.before.answer2.given.1
-    (put_same (text-refused removeText c.before.before.before.before.before.answer2.given.0.0 c.before.before.before.before.before.before.before.before.args.over []) c.before.before.put-refusal.ensures.0, search rules)
+    (put_same (text_refused remove_text c.before.before.before.before.before.answer2.given.0.0 c.before.before.before.before.before.before.before.before.args.over []) c.before.before.put-refusal.ensures.0, search rules)
 
 pub put-removed-spec : {M : Type 1} → statement M
 put-removed-spec =

@@ -1,9 +1,9 @@
 -- `lines::answers::put_ring` meets its contract.
 use mathlib.Core.Path.{refl}
 use mathlib.Core.Bool.{false}
-use Rattle.told.proofs.Texts.{text-refused}
+use Rattle.told.proofs.Texts.{text_refused}
 use Rattle.told.proofs.Puts.{put_then, put_same}
-use Rattle.rules.specs.Script.{ringText}
+use Rattle.rules.specs.Script.{ring_text}
 use lib.ListN.{length}
 use native.Mathlib.Omega.{arith}
 use Prim.Native.Nat.{◌≤◌, ◌*◌}
@@ -50,7 +50,7 @@ same-length-2 c = search rules
 returns-2 : tie.Need-returns-2
 returns-2 c =
     rw c.before.before.before.before.before.answer2.given.1
-    (put_same (text-refused ringText c.before.before.before.before.before.answer2.given.0.0 false c.before.before.before.before.before.before.before.before.before.args.keys.now) c.before.before.put-refusal.ensures.0, search rules)
+    (put_same (text_refused ring_text c.before.before.before.before.before.answer2.given.0.0 false c.before.before.before.before.before.before.before.before.before.args.keys.now) c.before.before.put-refusal.ensures.0, search rules)
 
 pub put-ring-spec : {M : Type 1} → statement M
 put-ring-spec =

@@ -1,7 +1,7 @@
 -- `lines::text::put_decimal` meets its contract. The number falls at each call.
 use borrow.Author.Rules.{rules}
 use native.Mathlib.Omega.{arith}
-use Rattle.words.proofs.Decimals.{decimal-one, decimal-last, decimal-short}
+use Rattle.words.proofs.Decimals.{decimal_one, decimal-last, decimal_short}
 use Rattle.told.proofs.Puts.{put_one, put_last}
 use Prim.Native.Nat.{ℕ, ◌<◌}
 use borrow.Fn.Kinds.{In}
@@ -57,7 +57,7 @@ put-decimal-returns : (t : ℕ) → put-decimal-lts.Need-returns (
   put-decimal-below t,
   put-decimal.Post,
 ) (put-decimal-at t) put-decimal.Post
-put-decimal-returns t c = (rw (decimal-one c.before.before.args.n c.if1.true) (put_one _ _ _), omega arith)
+put-decimal-returns t c = (rw (decimal_one c.before.before.args.n c.if1.true) (put_one _ _ _), omega arith)
 
 put-decimal-put-decimal-requires : (t : ℕ) → put-decimal-lts.Need-put-decimal-requires (
   put-decimal-below t,
@@ -85,7 +85,7 @@ put-decimal-slice-write-out-2 : (t : ℕ) → put-decimal-lts.Need-slice-write-o
 ) (put-decimal-at t) put-decimal.Post
 put-decimal-slice-write-out-2 t c =
     let s = c.before.before.before.before.before.before in
-    let l = decimal-short s.args.n (omega arith) (omega (arith, s.ranges.n)) in
+    let l = decimal_short s.args.n (omega arith) (omega (arith, s.ranges.n)) in
     omega (arith, s.requires.1, c.before.before.put-decimal.ensures.0.past)
 
 put-decimal-add-result-2 : (t : ℕ) → put-decimal-lts.Need-overflow-add-result-2 (
@@ -94,7 +94,7 @@ put-decimal-add-result-2 : (t : ℕ) → put-decimal-lts.Need-overflow-add-resul
 ) (put-decimal-at t) put-decimal.Post
 put-decimal-add-result-2 t c =
     let s = c.before.before.before.before.before.before in
-    let l = decimal-short s.args.n (omega arith) (omega (arith, s.ranges.n)) in
+    let l = decimal_short s.args.n (omega arith) (omega (arith, s.ranges.n)) in
     omega (arith, s.requires.1, c.before.before.put-decimal.ensures.0.past)
 
 put-decimal-same-length-2 : (t : ℕ) → put-decimal-lts.Need-same-length-2 (
@@ -110,7 +110,7 @@ put-decimal-returns-2 : (t : ℕ) → put-decimal-lts.Need-returns-2 (
 put-decimal-returns-2 t c =
     let s = c.before.before.before.before.before.before in
     let e = decimal-last s.args.n (omega arith) (omega (arith, s.ranges.n)) in
-    let l = decimal-short s.args.n (omega arith) (omega (arith, s.ranges.n)) in
+    let l = decimal_short s.args.n (omega arith) (omega (arith, s.ranges.n)) in
     (rw e (put_last _ _ _ _ _ _ c.before.before.put-decimal.ensures.0), omega (arith, c.before.before.put-decimal.ensures.0.past))
 
 pub +put-decimal-spec : {M : Type 1} → statement M

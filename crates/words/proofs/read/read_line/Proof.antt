@@ -1,6 +1,6 @@
 -- `lines::read::read_line` meets its contract.
 use mathlib.Core.Path.{◌∙◌}
-use Rattle.rules.specs.Script.{replyTo}
+use Rattle.rules.specs.Script.{reply_to}
 use Rattle.words.proofs.Letters.{line-long, line_other, line-letter, letter-other}
 use borrow.Author.Rules.{rules}
 use Rattle.words.proofs.read.read_line.Statement.{statement}
@@ -34,23 +34,23 @@ read-remove-requires : tie.Need-read-remove-requires
 read-remove-requires c κs = search rules
 
 returns-3 : tie.Need-returns-3
-unfolding replyTo
+unfolding reply_to
 returns-3 c = λ st. line-letter st _ _ c.before.before.before.before.before.if1.false c.before.before.before.before.word-end.ensures c.before.before.before.if2.false ∙ rw c.before.match.keys1 (c.read-new-run.ensures st)
 
 returns-4 : tie.Need-returns-4
-unfolding replyTo
+unfolding reply_to
 returns-4 c = λ st. line-letter st _ _ c.before.before.before.before.before.if1.false c.before.before.before.before.word-end.ensures c.before.before.before.if2.false ∙ rw c.before.match.keys2 (c.read-insert.ensures st)
 
 returns-5 : tie.Need-returns-5
-unfolding replyTo
+unfolding reply_to
 returns-5 c = λ st. line-letter st _ _ c.before.before.before.before.before.if1.false c.before.before.before.before.word-end.ensures c.before.before.before.if2.false ∙ rw c.before.match.keys3 (c.read-union.ensures st)
 
 returns-6 : tie.Need-returns-6
-unfolding replyTo
+unfolding reply_to
 returns-6 c = λ st. line-letter st _ _ c.before.before.before.before.before.if1.false c.before.before.before.before.word-end.ensures c.before.before.before.if2.false ∙ rw c.before.match.keys4 (c.read-list.ensures st)
 
 returns-7 : tie.Need-returns-7
-unfolding replyTo
+unfolding reply_to
 returns-7 c = λ st. line-letter st _ _ c.before.before.before.before.before.if1.false c.before.before.before.before.word-end.ensures c.before.before.before.if2.false ∙ rw c.before.match.keys5 (c.read-remove.ensures st)
 
 returns-8 : tie.Need-returns-8

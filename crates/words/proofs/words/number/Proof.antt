@@ -1,5 +1,5 @@
 -- `lines::words::number` meets its contract. The invariant: the value so far is that of the digits passed, and they are its decimal.
-use Rattle.words.proofs.Reading.{Reading, reading-empty, reading-start, reading-no-digit, reading-zero, reading-large, reading-next, reading-done}
+use Rattle.words.proofs.Reading.{Reading, reading_empty, reading_start, reading_no_digit, reading_zero, reading_large, reading_next, reading_done}
 use native.Mathlib.Omega.{arith}
 use borrow.Author.Rules.{rules}
 use mathlib.Core.Logic.{⊎_elim}
@@ -15,10 +15,10 @@ abbrev decreases-loop : tie.decreases-loop
 decreases-loop line from end most value₀ i₀ value i = end - i
 
 returns : tie.Need-returns invariant-loop decreases-loop
-returns c = reading-empty _ _ _ _ c.if1.true
+returns c = reading_empty _ _ _ _ c.if1.true
 
 loop-holds : tie.Need-loop-init invariant-loop decreases-loop
-loop-holds c = reading-start _ _ _ _ c.before.before.requires.0
+loop-holds c = reading_start _ _ _ _ c.before.before.requires.0
 
 shared-slice-read-digit : tie.Need-shared-slice-read-digit invariant-loop decreases-loop
 shared-slice-read-digit c = omega (arith, c.before.before.loop.invariant.high, c.before.before.before.before.before.requires.1)
@@ -27,16 +27,16 @@ digit-requires : tie.Need-digit-requires invariant-loop decreases-loop
 digit-requires c κs = tt
 
 returns-2 : tie.Need-returns-2 invariant-loop decreases-loop
-returns-2 c = reading-no-digit _ _ _ _ _ _ _ c.before.before.before.before.loop.invariant c.before.before.before.before.before.before.before.requires.1 c.before.before.before.loop-test.true c.before.digit.ensures c.if2.true
+returns-2 c = reading_no_digit _ _ _ _ _ _ _ c.before.before.before.before.loop.invariant c.before.before.before.before.before.before.before.requires.1 c.before.before.before.loop-test.true c.before.digit.ensures c.if2.true
 
 returns-3 : tie.Need-returns-3 invariant-loop decreases-loop
-returns-3 c = reading-zero _ _ _ _ _ _ _ c.before.before.before.before.before.before.loop.invariant c.before.before.before.before.before.before.before.before.before.requires.1 c.before.before.before.before.before.loop-test.true c.before.before.before.digit.ensures (omega arith) c.before.if3.true c.if4.true
+returns-3 c = reading_zero _ _ _ _ _ _ _ c.before.before.before.before.before.before.loop.invariant c.before.before.before.before.before.before.before.before.before.requires.1 c.before.before.before.before.before.loop-test.true c.before.before.before.digit.ensures (omega arith) c.before.if3.true c.if4.true
 
 sub-if5 : tie.Need-overflow-sub-if5 invariant-loop decreases-loop
 sub-if5 c = omega (arith, c.before.before.before.before.before.before.before.before.requires.2, c.before.if2.false)
 
 returns-4 : tie.Need-returns-4 invariant-loop decreases-loop
-returns-4 c = reading-large _ _ _ _ _ _ _ c.before.before.before.before.before.before.loop.invariant c.before.before.before.before.before.before.before.before.before.requires.1 c.before.before.before.before.before.loop-test.true c.before.before.before.digit.ensures c.before.before.if2.false c.before.before.before.before.before.before.before.before.before.requires.2 c.if5.true
+returns-4 c = reading_large _ _ _ _ _ _ _ c.before.before.before.before.before.before.loop.invariant c.before.before.before.before.before.before.before.before.before.requires.1 c.before.before.before.before.before.loop-test.true c.before.before.before.digit.ensures c.before.before.if2.false c.before.before.before.before.before.before.before.before.before.requires.2 c.if5.true
 
 mul-value : tie.Need-overflow-mul-value invariant-loop decreases-loop
 mul-value c = omega (arith, c.before.before.before.before.before.before.loop.invariant.small)
@@ -51,10 +51,10 @@ loop-less : tie.Need-loop-smaller invariant-loop decreases-loop
 loop-less c = omega (arith, c.before.before.before.before.before.loop-test.true)
 
 loop-again : tie.Need-loop-preserved invariant-loop decreases-loop
-loop-again c = reading-next _ _ _ _ _ _ _ c.before.before.before.before.before.before.loop.invariant c.before.before.before.before.before.before.before.before.before.requires.1 c.before.before.before.before.before.loop-test.true c.before.before.before.digit.ensures c.before.before.if2.false (omega arith) (⊎_elim (λ w z. w.1.left) (λ w z. absurd (w.left z)) c.before.if3.branch) (omega arith)
+loop-again c = reading_next _ _ _ _ _ _ _ c.before.before.before.before.before.before.loop.invariant c.before.before.before.before.before.before.before.before.before.requires.1 c.before.before.before.before.before.loop-test.true c.before.before.before.digit.ensures c.before.before.if2.false (omega arith) (⊎_elim (λ w z. w.1.left) (λ w z. absurd (w.left z)) c.before.if3.branch) (omega arith)
 
 returns-5 : tie.Need-returns-5 invariant-loop decreases-loop
-returns-5 c = reading-done _ _ _ _ _ _ c.before.loop.invariant c.loop-test.false (omega (arith, c.before.before.before.before.requires.0, c.before.before.if1.false))
+returns-5 c = reading_done _ _ _ _ _ _ c.before.loop.invariant c.loop-test.false (omega (arith, c.before.before.before.before.requires.0, c.before.before.if1.false))
 
 pub number-spec : {M : Type 1} → statement M
 number-spec =

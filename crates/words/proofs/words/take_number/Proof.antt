@@ -1,7 +1,7 @@
 -- `lines::words::take_number` meets its contract.
 use Rattle.words.specs.Words.{option}
 use mathlib.Core.Path.{◌≡◌, refl, ap, ◌∙◌}
-use Rattle.words.proofs.Pieces.{numbers-none, numbers-word}
+use Rattle.words.proofs.Pieces.{numbers-none, numbers_word}
 use borrow.Author.Rules.{rules}
 use Rattle.words.proofs.words.take_number.Statement.{statement}
 use Rattle.words.proofs.words.take_number.Tie as tie
@@ -25,10 +25,10 @@ enum_told : tie.Need-enum-told
 enum_told c = search rules
 
 returns-2 : tie.Need-returns-2
-returns-2 c = λ mosts. numbers-word _ _ _ mosts _ _ c.before.before.before.before.word-end.ensures (c.before.before.before.number.ensures ∙ ap option c.before.value.given.1)
+returns-2 c = λ mosts. numbers_word _ _ _ mosts _ _ c.before.before.before.before.word-end.ensures (c.before.before.before.number.ensures ∙ ap option c.before.value.given.1)
 
 returns-3 : tie.Need-returns-3
-returns-3 c = λ mosts. numbers-word _ _ _ mosts _ _ c.before.before.before.word-end.ensures (c.before.before.number.ensures ∙ ap option c.enum_told.given.1)
+returns-3 c = λ mosts. numbers_word _ _ _ mosts _ _ c.before.before.before.word-end.ensures (c.before.before.number.ensures ∙ ap option c.enum_told.given.1)
 
 pub take-number-spec : {M : Type 1} → statement M
 take-number-spec =

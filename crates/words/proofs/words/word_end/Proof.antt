@@ -3,7 +3,7 @@ use Prim.Native.Nat.{◌-◌}
 use borrow.Author.Rules.{rules}
 use lib.ListN.{length}
 use Rattle.rules.specs.Script.{space}
-use Rattle.words.proofs.Pieces.{Within, within-start, within-next, word-at-space, word-at-last}
+use Rattle.words.proofs.Pieces.{Within, within-start, within-next, word_at_space, word_at_last}
 use Rattle.words.proofs.words.word_end.Statement.{statement}
 use Rattle.words.proofs.words.word_end.Tie as tie
 
@@ -20,7 +20,7 @@ shared-slice-read-if1 : tie.Need-shared-slice-read-if1 invariant-loop decreases-
 shared-slice-read-if1 c = search rules
 
 returns : tie.Need-returns invariant-loop decreases-loop
-returns c = word-at-space _ _ _ c.before.before.before.loop.invariant c.before.before.loop-test.true c.if1.true
+returns c = word_at_space _ _ _ c.before.before.before.loop.invariant c.before.before.loop-test.true c.if1.true
 
 add-end : tie.Need-overflow-add-end invariant-loop decreases-loop
 add-end c = search rules
@@ -32,7 +32,7 @@ loop-again : tie.Need-loop-preserved invariant-loop decreases-loop
 loop-again c = within-next _ _ _ _ c.before.before.before.loop.invariant c.before.before.loop-test.true c.if1.false
 
 returns-2 : tie.Need-returns-2 invariant-loop decreases-loop
-returns-2 c = word-at-last _ _ _ c.before.loop.invariant c.loop-test.false
+returns-2 c = word_at_last _ _ _ c.before.loop.invariant c.loop-test.false
 
 pub word-end-spec : {M : Type 1} → statement M
 word-end-spec =
