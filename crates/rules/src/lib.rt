@@ -1,8 +1,7 @@
 // The types of document 01: head, key, refusals and answers. The rules are in specs/.
 #![tactic(auto)]
 
-ghost use Rattle.std.specs.Prelude.{◌≡◌, ◌+◌, ◌≤◌};
-ghost use Rattle.rules.specs.Notation.{◌==◌};
+ghost use Rattle.std.specs.Prelude.{◌≡◌, ◌+◌, ◌≤◌, ◌==◌};
 ghost use Rattle.rules.specs.Tables.{most_slots, last_generation, with_pools, with_generation, blank, remembering};
 ghost use Rattle.rules.specs.Slots.{slot_of, is_full, freed, raised};
 
