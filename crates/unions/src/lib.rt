@@ -16,7 +16,7 @@ use rules::{
 };
 
 // Which slot's class is kept, which one's goes, and the key of the class kept.
-#[derive(Drop)]
+#[derive(Clone, Copy)]
 pub struct Roles {
     pub keeps: u64,
     pub goes: u64,
