@@ -1,4 +1,6 @@
 // A block of the script program's input (Script): each whole line in it obeyed, the replies into a buffer that is written when full.
+#![tactic(auto)]
+
 ghost use Rattle.std.specs.Prelude.{ℕ, ◌≤◌, length, take};
 ghost use Rattle.rules.specs.Tables.{state_of};
 ghost use Rattle.rules.specs.Script.{line_reply};

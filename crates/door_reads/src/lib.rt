@@ -1,7 +1,9 @@
 // Reads, sets and the exchange at the host's door: the gate, then the call at the inner door. Nothing is required of the caller.
+#![tactic(auto)]
+
 ghost use Rattle.std.specs.Prelude.{false, []};
 ghost use Rattle.rules.specs.Tables.{state_of};
-ghost use Rattle.rules.specs.Answers.{leaves, said_done, said_number, said_same, after_number, afterExchanged};
+ghost use Rattle.rules.specs.Answers.{leaves, said_done, said_number, said_same, after_number, after_exchanged};
 ghost use Rattle.rules.specs.Calls.{AtDoor, len_surject, in_same_surject, get_element, get_shared, get_size, get_total, lookup, set_element, set_shared, exchange};
 
 use gate::gate;
@@ -113,7 +115,7 @@ pub fn exchange_disjoint_shared(
     keys: [Key; 4],
     values: [u64; 4],
 ) -> HeadExchanged
-    ensures { AtDoor (state_of head elems.now shared.old) [] (exchange keys values) (afterExchanged result elems.now shared.new []) }
+    ensures { AtDoor (state_of head elems.now shared.old) [] (exchange keys values) (after_exchanged result elems.now shared.new []) }
 {
     match gate(head, elems, shared) {
         Done::Refused(n) => {

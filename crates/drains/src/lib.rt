@@ -1,7 +1,8 @@
 // Drain a run (Rules 10) at the inner door, frame by frame: equal to its rule, on a ready state.
 // Ported from drain_surject of surject_iterators.rs (triple_arena 0.15.1, NOTICE).
-ghost use Rattle.std.specs.Prelude.{◌≡◌, [], ◌∷◌, ◌++◌};
-ghost use Rattle.rules.specs.Notation.{if◌then◌else◌};
+#![tactic(auto)]
+
+ghost use Rattle.std.specs.Prelude.{◌≡◌, [], ◌∷◌, ◌++◌, if◌then◌else◌};
 ghost use Rattle.rules.specs.Tables.{row, state_of};
 ghost use Rattle.rules.specs.Drains.{record_width, rest_fields};
 ghost use Rattle.rules.specs.Calls as calls;

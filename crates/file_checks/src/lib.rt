@@ -1,4 +1,6 @@
 // The reader's first pass (Ticket 11): does a file keep the layout of its version, and how many runs and frames does it hold. Nothing is written.
+#![tactic(auto)]
+
 ghost use Rattle.std.specs.Prelude.{◌≡◌, ◌+◌, ◌*◌, ◌≤◌, ◌<◌, length, drop};
 ghost use Rattle.rules.specs.RunFile.{total, frame_length, body, parse};
 ghost use Rattle.rules.proofs.Laws.Fixed.{frames_here, entry_here};
@@ -10,14 +12,14 @@ use littles::{get4, get8};
 const FRAME_LENGTH: usize = 12;
 
 // A body that was read: the place after it, and its number of frames.
-#[derive(Drop)]
+#[derive(Clone, Copy)]
 pub enum Next {
     At(usize, u64),
     Departs,
 }
 
 // A file that was read: its numbers of runs and frames.
-#[derive(Drop)]
+#[derive(Clone, Copy)]
 pub enum Checked {
     Holds(u64, u64),
     Departs,

@@ -1,6 +1,7 @@
 // The lent head: thirteen numbers (docs/LAYOUT.md).
-ghost use Rattle.std.specs.Prelude.{◌≡◌};
-ghost use Rattle.rules.specs.Notation.{if◌then◌else◌, ◌==◌};
+#![tactic(auto)]
+
+ghost use Rattle.std.specs.Prelude.{◌≡◌, if◌then◌else◌, ◌==◌};
 ghost use Rattle.numbers.specs.Numbers.{head_of};
 
 use rules::{Head, Memory, Pool};

@@ -1,4 +1,6 @@
 // The head lent in place (last form of document 01): the writer's two calls, thin, over the steps by value.
+#![tactic(auto)]
+
 pub mod at_door;
 
 ghost use Rattle.std.specs.Prelude.{◌≡◌, []};
@@ -9,7 +11,7 @@ ghost use Rattle.rules.specs.Answers.{leaves, said_inserted, said_removed};
 use rules::{Head, Inserted, Key, Removed};
 
 // Removal's answer, and beside it the overflow mark.
-#[derive(Drop)]
+#[derive(Clone, Copy)]
 pub struct TakenOut {
     pub answer: Removed,
     pub over: bool,

@@ -1,5 +1,7 @@
 // Remove (Rules 7) at the inner door: equal to its rule, on a ready state.
 // Ported from remove_element of surject_arena.rs (triple_arena 0.15.1, NOTICE).
+#![tactic(auto)]
+
 ghost use Rattle.std.specs.Prelude.{◌≡◌, List, [], ℕ};
 ghost use Rattle.rules.specs.Tables.{state_of};
 ghost use Rattle.rules.specs.Calls.{Ready, step, remove};
@@ -13,14 +15,14 @@ use rules::{
 };
 
 // What a class is left as: the head, and what is said of the run.
-#[derive(Drop)]
+#[derive(Clone, Copy)]
 pub struct Left {
     pub head: Head,
     pub rest: Rest,
 }
 
 // A frame taken out, and what is said of its run and of the generation.
-#[derive(Drop)]
+#[derive(Clone, Copy)]
 pub struct Removal {
     pub head: Head,
     pub payload: u64,

@@ -1,5 +1,7 @@
 // Replays a fixed sample of the Rust's answers at the host's door, and says whether any differs. The sample is made by
 // `differential sample` (rust/differential/src/sample.rs says how a record lies); no Rust is at hand here.
+#![tactic(auto)]
+
 mod calls;
 mod frames;
 mod whole;

@@ -1,4 +1,6 @@
 // The script program (Script): lines on standard input, a reply to each on standard output.
+#![tactic(auto)]
+
 ghost use Rattle.std.specs.Prelude.{ℕ, ◌≡◌, List, []};
 ghost use Rattle.rules.specs.Tables.{state_of};
 ghost use Rattle.rules.specs.Script.{output};

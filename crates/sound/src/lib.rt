@@ -1,5 +1,7 @@
 // The soundness check, linear in the extents and capacities: the scan of the element slots, and the whole.
 // Ported from _check_surjects of surject_arena.rs (triple_arena 0.15.1, NOTICE), with what document 01 mends (docs/DIFFERENCES.md).
+#![tactic(auto)]
+
 ghost use Rattle.std.specs.Prelude.{◌≡◌, true, ◌*◌, ◌≤◌, length};
 ghost use Rattle.rules.specs.Tables.{state_of};
 ghost use Rattle.rules.specs.Sound as sound;
@@ -16,7 +18,7 @@ use rules::{
 use turns::{free_ok, ring_ok};
 
 // What the scan finds at a slot: a free one, a frame of a class that was seen, the first frame of a class and its ring's size, or what no sound state has.
-#[derive(Drop)]
+#[derive(Clone, Copy)]
 enum Turn {
     Free,
     Seen,

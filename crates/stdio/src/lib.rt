@@ -1,4 +1,6 @@
 // The script program's standard input and output (Script): a block read, and bytes handed to the writer and counted.
+#![tactic(auto)]
+
 ghost use Rattle.std.specs.Prelude.{◌≡◌, ℕ, ◌≤◌, List, [], ◌++◌, length, take};
 ghost use Rattle.stdio.specs.Handed.{Handed};
 

@@ -1,7 +1,8 @@
 // Union (Rules 6) at the inner door: equal to its rule, on a ready state.
 // Ported from union of surject_arena.rs (triple_arena 0.15.1, NOTICE).
-ghost use Rattle.std.specs.Prelude.{◌≡◌, []};
-ghost use Rattle.rules.specs.Notation.{if◌then◌else◌};
+#![tactic(auto)]
+
+ghost use Rattle.std.specs.Prelude.{◌≡◌, [], if◌then◌else◌};
 ghost use Rattle.rules.specs.Tables.{state_of};
 ghost use Rattle.rules.specs.Refusals.{outcome};
 ghost use Rattle.rules.specs.Runs.{keeping};
@@ -15,7 +16,7 @@ use rules::{
 };
 
 // Which slot's class is kept, which one's goes, and the key of the class kept.
-#[derive(Drop)]
+#[derive(Clone, Copy)]
 pub struct Roles {
     pub keeps: u64,
     pub goes: u64,

@@ -1,4 +1,5 @@
 -- One history, written in two ways: the runs in another order, each begun anywhere. The run of a key comes to the front.
+use Rattle.std.specs.Prelude.{if◌then◌else◌}
 use mathlib.Core.Path.{◌≡◌, refl, sym, ap, ◌∙◌}
 use mathlib.Core.Logic.{◌≢◌, ◌⊎◌, inl, inr}
 use mathlib.Core.Bool.{Bool, true, false, not}
@@ -7,7 +8,7 @@ use Prim.Native.Nat.{ℕ, suc, ◌+◌}
 use native.Mathlib.Omega.{arith}
 use lib.ListN.{length, length-append}
 use Rattle.rules.specs.declared.Key.{Key}
-use Rattle.rules.specs.Notation.{if◌then◌else◌, flat}
+use Rattle.rules.specs.Notation.{flat}
 use Rattle.rules.specs.Calls.{Is}
 use Rattle.rules.specs.History.{before, after, holds, others_of, run_of, runs_but}
 use Rattle.rules.proofs.Laws.Lists.{All, In, Out, NoDup, all_map, all-at, all_of, in_left, in_right, in_parts, in_swap, nodup_parts, nodup_append, nodup_swap, out-not}
@@ -102,6 +103,7 @@ runs_but-none k (r ∷ rs) n = go (holds k r) (holds-is k r) (runs_but-none k rs
 -- the run of a key that the history holds, begun at the key, and the other runs
 pub fronted : (k : Key) (rs : List (List Key)) → NoDup (flat rs) → In k (flat rs) → Same rs (run_of k rs ∷ runs_but k rs)
 unfolding others_of runs_but
+fronted k [] d m = elim m [ ]
 fronted k (r ∷ rs) d m = go (holds k r) (holds-is k r) (λ i. fronted k rs (nodup_parts r (flat rs) d).1 i)
   where
     elsewhere : (In k r → ⊥) → In k r ⊎ In k (flat rs) → In k (flat rs)
@@ -120,6 +122,7 @@ fronted k (r ∷ rs) d m = go (holds k r) (holds-is k r) (λ i. fronted k rs (no
 -- the run of `j`, which is no run of `k`, among the runs that do not hold `k`
 pub others_but : (j k : Key) (rs : List (List Key)) → NoDup (flat rs) → In k (flat rs) → In j (flat (runs_but k rs)) → others_of j (runs_but k rs) ≡ others_of j rs
 unfolding others_of runs_but
+others_but j k [] d i m = elim i [ ]
 others_but j k (r ∷ rs) d i m = go (holds k r) (holds-is k r) m (λ i m. others_but j k rs (nodup_parts r (flat rs) d).1 i m)
   where
     within : In j r ⊎ In j (flat (runs_but k rs)) → (In j r → ⊥) → In j (flat (runs_but k rs))

@@ -1,4 +1,5 @@
 -- Places in a list, a column that ends, and a table that is written row by row: what compression, a copy and a move number slots by.
+use Rattle.std.specs.Prelude.{if◌then◌else◌}
 use mathlib.Core.Path.{◌≡◌, refl, sym, ap, ◌∙◌, fun_ext, subst₂}
 use mathlib.Core.Logic.{◌≢◌, ◌⊎◌, inl, inr}
 use mathlib.Core.Bool.{Bool, true, false}
@@ -10,7 +11,7 @@ use native.Mathlib.Decide.{dec_lt}
 use lib.Dec.{T, eqb, eqb→eq, eqb_refl}
 use lib.ListN.{length, get_or, replicate, length-append, length-replicate, get_or-append}
 use lib.Seq.{get_or-append-add, ext_get_or}
-use Rattle.rules.specs.Notation.{if◌then◌else◌, flat}
+use Rattle.rules.specs.Notation.{flat}
 use Rattle.rules.specs.Tables.{cell}
 use Rattle.rules.specs.Compress.{place_of, padded}
 use Rattle.rules.proofs.Laws.Columns.{choose, get_d-zeros}
@@ -31,6 +32,7 @@ place_cases ys x y = go (eqb x y) (eqb→eq x y) (λ e. eqb_refl' e)
 
 -- a member stands at its place
 pub place_in : (x : ℕ) (xs : List ℕ) → In x xs → (1 ≤ place_of xs x) × (place_of xs x ≤ length xs) × (get_or xs (place_of xs x - 1) 0 ≡ x)
+place_in x [] m = elim m [ ]
 place_in x (y ∷ ys) m = go (place_cases ys x y) m (λ k. place_in x ys k)
   where
     go : ((x ≡ y) × (place_of (y ∷ ys) x ≡ 1)) ⊎ ((x ≢ y) × (place_of (y ∷ ys) x ≡ suc (place_of ys x))) → In x (y ∷ ys)

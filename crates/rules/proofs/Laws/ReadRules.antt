@@ -1,4 +1,5 @@
 -- What the reader's rule decides (Ticket 11), case by case; and what an accepted read is.
+use Rattle.std.specs.Prelude.{if◌then◌else◌}
 use mathlib.Core.Path.{◌≡◌, refl, sym, ap, ◌∙◌, subst}
 use mathlib.Core.Bool.{Bool, true, false}
 use mathlib.Core.List.{List, []}
@@ -6,7 +7,7 @@ use Prim.Native.Nat.{ℕ, suc, ◌≤◌, ◌<◌}
 use native.Mathlib.Omega.{arith}
 use lib.ListN.{length}
 use Rattle.rules.specs.declared.Refusal.TheVariants.{Shape, NoElement, NoShared, NoFile, Version}
-use Rattle.rules.specs.Notation.{if◌then◌else◌, ◌<?◌}
+use Rattle.rules.specs.Notation.{◌<?◌}
 use Rattle.rules.specs.Tables.{State}
 use Rattle.rules.specs.Refusals.{Ruling, refuse, answer, outcome, shaped}
 use Rattle.rules.specs.Calls.{Is}
@@ -90,5 +91,5 @@ accepted-read known st b k e = go (read_file known st b) refl (ruled known st b)
         (rs, record { holds = H; fits = w.fits; same = w.same; shared = l; elems = m; now = ap (outcome st []) f })
 
 -- the runs that a file holds, as the history has them
-pub runs_of : (known : List ℕ) (st : State) (b : List ℕ) (rs : List StoredRun) → Holds known st b rs → runs_of b ≡ rs
-runs_of known st b rs H = rw H.runs
+pub runs_of_lem : (known : List ℕ) (st : State) (b : List ℕ) (rs : List StoredRun) → Holds known st b rs → runs_of b ≡ rs
+runs_of_lem known st b rs H = rw H.runs

@@ -1,4 +1,5 @@
 -- Sums over lists, none of whose members stands twice: equal where the members that count are the same.
+use Rattle.std.specs.Prelude.{if◌then◌else◌}
 use mathlib.Core.Path.{◌≡◌, refl, sym, ap, ◌∙◌}
 use mathlib.Core.Logic.{◌≢◌, ◌⊎◌, inl, inr}
 use mathlib.Core.Bool.{Bool, true, false}
@@ -8,7 +9,7 @@ use native.Mathlib.Omega.{arith}
 use native.Mathlib.Decide.{ℕ_discrete}
 use lib.Dec.{T}
 use lib.ListN.{length}
-use Rattle.rules.specs.Notation.{if◌then◌else◌, along, sum, up_to, keep}
+use Rattle.rules.specs.Notation.{along, sum, up_to, keep}
 use Rattle.rules.proofs.Laws.Lists.{In, NoDup, all-at, all_of, in_left, in_right, in_parts, in_cut}
 
 module _ {A : Type 0} (f : A → ℕ) where
@@ -52,6 +53,7 @@ module _ {A : Type 0} where
 
   -- what is kept
   pub keep_in : (test : A → Bool) (x : A) (xs : List A) → In x xs → T (test x) → In x (keep test xs)
+  keep_in test x [] m t = elim m [ ]
   keep_in test x (y ∷ ys) m t = go (test y) m (λ e. ap test e) (λ i. keep_in test x ys i t)
     where
       go : (b : Bool) → In x (y ∷ ys) → (x ≡ y → test x ≡ b) → (In x ys → In x (keep test ys)) → In x (if b then y ∷ keep test ys else keep test ys)
@@ -61,6 +63,7 @@ module _ {A : Type 0} where
       go false (inr i) g f = f i
 
   pub keep_of : (test : A → Bool) (x : A) (xs : List A) → In x (keep test xs) → In x xs × T (test x)
+  keep_of test x [] m = elim m [ ]
   keep_of test x (y ∷ ys) m = go (test y) refl m (λ i. keep_of test x ys i)
     where
       go : (b : Bool) → test y ≡ b → In x (if b then y ∷ keep test ys else keep test ys) → (In x (keep test ys) → In x ys × T (test x)) → In x (y ∷ ys) × T (test x)
@@ -86,6 +89,7 @@ along_in (suc n) a s lo hi = go (ℕ_discrete s a) (λ l. along_in n (suc a) s l
     go (no e) f = inr (f (omega arith))
 
 pub along_of : (n a s : ℕ) → In s (along suc n a) → (a ≤ s) × (s < a + n)
+along_of zero a s x' = elim x' [ ]
 along_of (suc n) a s (inl e) = (omega arith, omega arith)
 along_of (suc n) a s (inr m) = let r = along_of n (suc a) s m in (omega (arith, r.0), omega (arith, r.1))
 
