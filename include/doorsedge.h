@@ -1,7 +1,7 @@
 /* Doorsedge: runs of frames in lent tables, with a shared value and a total of bytes for each run.
 
    A port of `SurjectArena` of the Rust crate triple_arena 0.15.1 (MIT OR Apache-2.0), every function of it proved.
-   Link with target/staticlib/libhost.a (`rt staticlib host`), or, where `./install` has laid it, with
+   Link with target/staticlib/libhost.a (`tools/archive`), or, where `./install` has laid it, with
    `pkg-config --cflags --libs doorsedge`.
 
    The caller owns everything: a head of DOORSEDGE_HEAD numbers, a table of element slots, a table of shared slots, and

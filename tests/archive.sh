@@ -5,6 +5,6 @@ cd "$(dirname "$0")/.."
 if [ -n "${DOORSEDGE_MOCK:-}" ]; then
     echo "--features mock"
 elif [ ! -f "${DOORSEDGE_ARCHIVE:-target/staticlib}/libhost.a" ]; then
-    echo "target/staticlib/libhost.a is missing: rt staticlib host (DOORSEDGE_MOCK=1 does without)" >&2
-    rt staticlib host >&2
+    echo "target/staticlib/libhost.a is missing: tools/archive (DOORSEDGE_MOCK=1 does without)" >&2
+    tools/archive
 fi

@@ -6,7 +6,7 @@ set -eu
 cd "$(dirname "$0")/.."
 . tests/processor.sh
 archive=${1:-${DOORSEDGE_ARCHIVE:-target/staticlib}/libhost.a}
-[ -f "$archive" ] || { echo "probe: $archive is missing: make it with 'rt staticlib host'" >&2; exit 1; }
+[ -f "$archive" ] || { echo "probe: $archive is missing: make it with tools/archive" >&2; exit 1; }
 code=$(mktemp)
 trap 'rm -f "$code"' EXIT
 "${OBJDUMP:-objdump}" -d --no-show-raw-insn "$archive" >"$code"

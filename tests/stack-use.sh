@@ -10,7 +10,7 @@ set -eu
 cd "$(dirname "$0")/.."
 . tests/processor.sh
 archive=${1:-${DOORSEDGE_ARCHIVE:-target/staticlib}/libhost.a}
-[ -f "$archive" ] || { echo "stack-use: $archive is missing: make it with 'rt staticlib host'" >&2; exit 1; }
+[ -f "$archive" ] || { echo "stack-use: $archive is missing: make it with tools/archive" >&2; exit 1; }
 most=$(awk '$1 == "#define" && $2 == "DOORSEDGE_STACK" { print $3 }' include/doorsedge.h)
 [ -n "$most" ] || { echo "stack-use: include/doorsedge.h has no DOORSEDGE_STACK" >&2; exit 1; }
 

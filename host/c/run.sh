@@ -12,7 +12,7 @@ if [ "${1:-}" = mock ]; then
     archive=$made/libmock.a
 else
     archive=${DOORSEDGE_ARCHIVE:-target/staticlib}/libhost.a
-    [ -f "$archive" ] || { echo "$archive is missing: make it with 'rt staticlib host', or run with 'mock'" >&2; exit 1; }
+    [ -f "$archive" ] || { echo "$archive is missing: make it with tools/archive, or run with 'mock'" >&2; exit 1; }
 fi
 for program in recorder finalizer entries undo clone file transfer; do
     ${CC:-cc} -std=c99 -O2 -Wall -Wextra -Werror -pedantic -Iinclude -o "$out/$program" "host/c/$program.c" "$archive" -lpthread -ldl -lm

@@ -33,7 +33,7 @@ impl Place {
     }
 }
 
-/// As `rt staticlib host` made it, in this folder.
+/// As `tools/archive` made it, in this folder.
 fn built(dir: PathBuf, here: &Path) -> Place {
     Place { dir, name: "host", header: here.join("../../include/doorsedge.h") }
 }
@@ -73,7 +73,7 @@ fn link() -> Vec<String> {
     println!("cargo:rerun-if-changed={}", archive.display());
     if !archive.exists() {
         eprintln!("doorsedge: {} is missing.", archive.display());
-        eprintln!("Make it with `rt staticlib host` (rt check and rt ci remove it), or install it with `./install`,");
+        eprintln!("Make it with `tools/archive`, or install it with `./install`,");
         eprintln!("or set DOORSEDGE_ARCHIVE to the folder that has it, or DOORSEDGE_PREFIX to where one is installed,");
         eprintln!("or build with the feature `mock`, over the plain Rust model: nothing is proved of that.");
         exit(1);
