@@ -1,0 +1,29 @@
+use mathlib.Core.Path.{◌∙◌}
+use native.Mathlib.Omega.{arith}
+use Rattle.slots.proofs.Live.{on-live}
+use Rattle.rules.proofs.Laws.Safe.{safe}
+use Rattle.slots.proofs.Live.{all_in}
+use Rattle.rings.proofs.Listing.{list_3, list_7, list_done}
+use Rattle.std.proofs.Common.{rules}
+use Rattle.rings.proofs.lists.list.Goals as goal
+
+pub find-requires : goal.find-requires
+find-requires c = let s = safe _ c.requires in search rules
+
+pub returns-in-Dead : goal.returns-in-Dead
+returns-in-Dead c = list_3 _ _ _ ((c.find.ensures _).same ∙ c.in-Dead.is)
+
+pub size_at-size-requires : goal.size_at-size-requires
+size_at-size-requires c = on-live _ _ _ _ c.requires (c.find.ensures _) c.in-Live.is
+
+pub overflow_mul-size : goal.overflow_mul-size
+overflow_mul-size c = let l = on-live _ _ _ _ c.requires (c.find.ensures _) c.in-Live.is in record { fits = rw c.size_at-size.ensures (omega arith) }
+
+pub returns-then-out-size : goal.returns-then-out-size
+returns-then-out-size c = list_7 _ _ _ _ ((c.find.ensures _).same ∙ c.in-Live.is) (rw (← c.size_at-size.ensures) c.if-out-size.true)
+
+pub write_keys-requires : goal.write_keys-requires
+write_keys-requires c = let l = on-live _ _ _ _ c.requires (c.find.ensures _) c.in-Live.is in (all_in _ _ _ l.safe l.live, c.if-out-size.false)
+
+pub returns : goal.returns
+returns c = rw c.size_at-size.ensures (list_done _ _ _ _ ((c.find.ensures _).same ∙ c.in-Live.is) _ (rw (← c.size_at-size.ensures) c.if-out-size.false) (rw (← c.size_at-size.ensures) c.write_keys.ensures))
