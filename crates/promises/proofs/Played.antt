@@ -8,7 +8,7 @@ use Rattle.rules.specs.Tables.{frame_width, header_width}
 use Rattle.rules.specs.Calls.{new_run, insert, union, undo, remove, write_file}
 use Rattle.rules.specs.History.{History, Given, others_of, runs_but, inserted_runs, joined_runs, removed_runs, nothing}
 use Rattle.rules.proofs.Cases.{rules, key, ez, mz, zeros}
-use Rattle.rules.proofs.CasesCopied.{copies}
+use Rattle.rules.proofs.CasesCopied.{copying}
 use Rattle.rules.proofs.CasesFile.{files, u4, u8, f, study_file}
 use Rattle.rules.proofs.WitnessFile.{study_bytes}
 use Rattle.numbers.specs.Numbers.{head_of}
@@ -76,12 +76,12 @@ again = freshened kept 4 3 0 _ _ _ (record { same = refl })
 
 -- Ticket 10: the tables copied to others that hold numbers which mean nothing: a history of two frames put in
 copied_to : AfterEntries (2 ∷ 2 ∷ 0 ∷ 2 ∷ 1 ∷ 1 ∷ 0 ∷ 1 ∷ 2 ∷ 0 ∷ 0 ∷ 0 ∷ 0 ∷ []) (ez 1 10 1 2 2 7 ++ ez 1 11 1 1 1 20) (mz 2 100 0 27) (told ((key 2 1 ∷ key 1 1 ∷ []) ∷ []) (given (key 2 1) 20 ∷ given (key 1 1) 7 ∷ []) 2 0 2)
-unfolding rules copies head_of
+unfolding rules copying head_of
 copied_to = copied left (2 ∷ 91 ∷ 92 ∷ 93 ∷ 1 ∷ 94 ∷ 95 ∷ 96 ∷ 97 ∷ 1 ∷ 2 ∷ 1 ∷ 98 ∷ []) (replicate 12 9) (replicate 5 8) _ _ _ (copies_to left (2 ∷ 91 ∷ 92 ∷ 93 ∷ 1 ∷ 94 ∷ 95 ∷ 96 ∷ 97 ∷ 1 ∷ 2 ∷ 1 ∷ 98 ∷ []) (replicate 12 9) (replicate 5 8) refl refl)
 
 -- just after the union: the copy has nothing to undo
 copied_joined : AfterEntries (3 ∷ 3 ∷ 0 ∷ 3 ∷ 1 ∷ 1 ∷ 0 ∷ 1 ∷ 1 ∷ 0 ∷ 0 ∷ 0 ∷ 0 ∷ []) (ez 1 10 1 2 3 7 ++ ez 1 11 1 3 1 20 ++ ez 1 20 1 1 2 4000) (mz 3 100 0 4027) (told ((key 3 1 ∷ key 2 1 ∷ key 1 1 ∷ []) ∷ []) (given (key 3 1) 4000 ∷ given (key 2 1) 20 ∷ given (key 1 1) 7 ∷ []) 3 0 1)
-unfolding rules copies head_of
+unfolding rules copying head_of
 copied_joined = copied joined (3 ∷ 91 ∷ 92 ∷ 93 ∷ 1 ∷ 94 ∷ 95 ∷ 96 ∷ 97 ∷ 1 ∷ 2 ∷ 1 ∷ 98 ∷ []) (replicate 18 9) (replicate 5 8) _ _ _ (copies_to joined (3 ∷ 91 ∷ 92 ∷ 93 ∷ 1 ∷ 94 ∷ 95 ∷ 96 ∷ 97 ∷ 1 ∷ 2 ∷ 1 ∷ 98 ∷ []) (replicate 18 9) (replicate 5 8) refl refl)
 
 -- Ticket 11: written to lent bytes, of which there is one more than are needed, nothing is noted

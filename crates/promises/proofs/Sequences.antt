@@ -72,8 +72,8 @@ noted-heard h c out o = rw (zero_result o.said) (go (o.said.number == 0))
 noted-fresh : (h : History) (said : Said) → noted_fresh h (heard (result_of said) []) ≡ noted_fresh h said
 noted-fresh h said = rw (zero_result said)
 
-noted_read : (h : History) (rs : List StoredRun) (said : Said) → noted_read h rs (heard (result_of said) []) ≡ noted_read h rs said
-noted_read h rs said = rw (zero_result said)
+noted-read : (h : History) (rs : List StoredRun) (said : Said) → noted_read h rs (heard (result_of said) []) ≡ noted_read h rs said
+noted-read h rs said = rw (zero_result said)
 
 -- 1 and 2 are told as they are
 not-refused : (said : Said) → (said.number ≢ 1) × (said.number ≢ 2) → (result_of said ≢ 1) × (result_of said ≢ 2)
@@ -100,7 +100,7 @@ after-entries (begun_read file b head elems shared head' elems' shared' p) =
     let st = lent_state head elems shared in
     subst (λ (l : Left). After l.state (read_into nothing (runs_of file))) (sym p.same) (start_read st file b ((small (read_step st file).said 0 (lit< tt)).0 (sym (ap (λ (l : Left). l.number) p.same))))
 after-entries (read_in {head = head} {elems = elems} {shared = shared} {h = h} a file b r head' elems' shared' p) =
-    subst (λ (l : Left). After l.state (noted_read h (runs_of file) (heard l.number []))) (sym p.same) (rw (noted_read h (runs_of file) (read_step (lent_state head elems shared) file).said) (read (after-entries a) file b))
+    subst (λ (l : Left). After l.state (noted_read h (runs_of file) (heard l.number []))) (sym p.same) (rw (noted-read h (runs_of file) (read_step (lent_state head elems shared) file).said) (read (after-entries a) file b))
 after-entries (copied {head = head} {elems = elems} {shared = shared} {h = h} a to_head to_elems to_shared head' elems' shared' p) =
     subst (λ (l : TwoLeft). After l.target (begun_with h)) (sym p.same)
     (copy (after-entries a) (lent_state to_head to_elems to_shared) p.outcome p.door ((small p.outcome.said 0 (lit< tt)).0 (sym (ap (λ (l : TwoLeft). l.number) p.same))))

@@ -18,6 +18,7 @@ use Rattle.pools.proofs.Ask.{differ}
 
 -- ---- lists of runs
 pub run_at : (y : ℕ) (rs : List Run) → In y (slots rs) → (r : Run) × In r rs × In y (frames r)
+run_at y [] m = elim m [ ]
 run_at y (r ∷ rs) m = go (λ k. run_at y rs k) (in_parts y (frames r) (slots rs) m)
   where
     go : (In y (slots rs) → (q : Run) × In q rs × In y (frames q)) → In y (frames r) ⊎ In y (slots rs) → (q : Run) × In q (r ∷ rs) × In y (frames q)
@@ -25,19 +26,23 @@ run_at y (r ∷ rs) m = go (λ k. run_at y rs k) (in_parts y (frames r) (slots r
     go f (inr k) = let t = f k in (t.0, inr t.1, t.2)
 
 pub at-run : (y : ℕ) (r : Run) (rs : List Run) → In r rs → In y (frames r) → In y (slots rs)
+at-run y r [] x'' m = elim x'' [ ]
 at-run y r (q ∷ rs) (inl p) m = in_left y (frames q) (slots rs) (subst (λ (v : Run). In y (frames v)) p m)
 at-run y r (q ∷ rs) (inr k) m = in_right y (frames q) (slots rs) (at-run y r rs k m)
 
 pub of_class : (c : ℕ) (rs : List Run) → In c (classes rs) → (r : Run) × In r rs × (r.class ≡ c)
+of_class c [] x' = elim x' [ ]
 of_class c (r ∷ rs) (inl q) = (r, inl refl, sym q)
 of_class c (r ∷ rs) (inr m) = let t = of_class c rs m in (t.0, inr t.1, t.2)
 
 pub class_of_lem : (r : Run) (rs : List Run) → In r rs → In r.class (classes rs)
+class_of_lem r [] x' = elim x' [ ]
 class_of_lem r (q ∷ rs) (inl p) = inl (ap (λ (v : Run). v.class) p)
 class_of_lem r (q ∷ rs) (inr m) = inr (class_of_lem r rs m)
 
 -- a class has one run
 pub same-run : (r q : Run) (rs : List Run) → NoDup (classes rs) → In r rs → In q rs → r.class ≡ q.class → r ≡ q
+same-run r q [] u x4 _ e = elim x4 [ ]
 same-run r q (t ∷ rs) u (inl a) (inl b) e = a ∙ sym b
 same-run r q (t ∷ rs) u (inl a) (inr b) e = absurd (all-at (λ y. t.class ≢ y) q.class (classes rs) u.0 (class_of_lem q rs b) (ap (λ (v : Run). v.class) (sym a) ∙ e))
 same-run r q (t ∷ rs) u (inr a) (inl b) e = absurd (all-at (λ y. t.class ≢ y) r.class (classes rs) u.0 (class_of_lem r rs a) (ap (λ (v : Run). v.class) (sym b) ∙ sym e))

@@ -112,6 +112,7 @@ module _ (st : State) (F : Found st) where
   next-live x t = (all-at (Fit st.elems st.head.elems.extent t.run.class) (next_of st.elems x) (frames t.run) t.ok.fits (closed (next_of st.elems) t.run.start t.run.rest t.ok.round x t.member)).live
     where
       after : (n : ℕ → ℕ) (a b y : ℕ) (zs : List ℕ) → Walk n a b zs → In y zs → (n y ≡ b) ⊎ In (n y) zs
+      after n a b y [] w x3 = elim x3 [ ]
       after n a b y (z ∷ []) w (inl q) = inl (ap n q ∙ w.1)
       after n a b y (z ∷ x ∷ zs) w (inl q) = inr (inr (inl (ap n q ∙ w.1.0)))
       after n a b y (z ∷ zs) w (inr m) = go (after n (n z) b y zs w.1 m)

@@ -128,12 +128,12 @@ and-false : (a : Bool) → a && false ≡ false
 and-false true = refl
 and-false false = refl
 
-same_bytes : (xs ys : List ℕ) → same_bytes xs ys ≡ true → xs ≡ ys
-same_bytes [] [] e = refl
-same_bytes [] (y ∷ ys) e = cc
-same_bytes (x ∷ xs) [] e = cc
-same_bytes (x ∷ xs) (y ∷ ys) e =
-    let p = both_true (x == y) (same_bytes xs ys) e in rw (eqb-true x y p.0, same_bytes xs ys p.1)
+same_bytes_lem : (xs ys : List ℕ) → same_bytes xs ys ≡ true → xs ≡ ys
+same_bytes_lem [] [] e = refl
+same_bytes_lem [] (y ∷ ys) e = cc
+same_bytes_lem (x ∷ xs) [] e = cc
+same_bytes_lem (x ∷ xs) (y ∷ ys) e =
+    let p = both_true (x == y) (same_bytes xs ys) e in rw (eqb-true x y p.0, same_bytes_lem xs ys p.1)
 
 -- a digit more of a word
 pub word_value-append : (v : ℕ) (xs ys : List ℕ) → word_value v (xs ++ ys) ≡ word_value (word_value v xs) ys
@@ -160,7 +160,7 @@ number-other most word d = go (same_bytes (decimal (word_value 0 word)) word) re
   where
     go : (t : Bool) → same_bytes (decimal (word_value 0 word)) word ≡ t
         → (if (word_value 0 word ≤? most) && same_bytes (decimal (word_value 0 word)) word then some (word_value 0 word) else none) ≡ none
-    go true e = absurd (d (same_bytes _ _ e))
+    go true e = absurd (d (same_bytes_lem _ _ e))
     go false e = rw (e, and-false (word_value 0 word ≤? most))
 
 pub number-empty : (most : ℕ) → number most [] ≡ none

@@ -1,0 +1,20 @@
+use Rattle.rules.specs.Tables.{blank}
+use mathlib.Core.Path.{ap}
+use native.Mathlib.Omega.{arith}
+use Rattle.rules.specs.declared.Raised.{Raised}
+use Rattle.rules.proofs.Laws.Soundness.{shaped_of}
+use Rattle.compress.proofs.Final.{placeable}
+use Rattle.compress.proofs.Call.{compress_short, compressed-is}
+use Rattle.compress.proofs.compress_canonical.Goals as goal
+
+pub overflow_mul-head : goal.overflow_mul-head
+overflow_mul-head c = omega (arith, (shaped_of _ c.requires.shape).elems.small)
+
+pub returns-then-scratch-head : goal.returns-then-scratch-head
+returns-then-scratch-head c = compress_short _ _ _ c.if-scratch-head.true
+
+pub place-requires : goal.place-requires
+place-requires c = placeable _ c.requires _ _ _ _ c.regroup.ensures
+
+pub returns : goal.returns
+returns c = compressed-is _ _ _ c.requires (omega (arith, c.if-scratch-head.false)) _ (ap (λ (r : Raised). r.head.generation) c.renew-next.ensures) _ _ c.regroup.ensures _ _ c.place.ensures _ (λ i. record { elems = c.pack-frames.ensures i; shared = c.pack-headers.ensures i; generation = c.renew-next.result.head.generation; undo = blank }) _ (ap (λ (r : Raised). r.over) c.renew-next.ensures)
