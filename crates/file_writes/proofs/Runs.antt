@@ -29,9 +29,12 @@ use Rattle.file_writes.proofs.Frames.{sets_then}
 
 -- ---- a body
 
+map-same : (st : State) (xs : List ℕ) → flat (map (λ s. frame_bytes 1 (record { payload = payload_of st.elems s; size = bytes_of st.elems s })) xs) ≡ flat (map (frame_bytes 1) (map (frame_in st) xs))
+map-same st [] = refl
+map-same st (x ∷ xs) = ap (λ (l : List ℕ). frame_bytes 1 (frame_in st x) ++ l) (map-same st xs)
+
 map-map : (e : List ℕ) (st : State) → st.elems ≡ e → (xs : List ℕ) → flat (map (λ s. frame_bytes 1 (record { payload = payload_of e s; size = bytes_of e s })) xs) ≡ flat (map (frame_bytes 1) (map (frame_in st) xs))
-map-map e st q [] = refl
-map-map e st q (x ∷ xs) = rw (← q) (ap (λ (l : List ℕ). frame_bytes 1 (frame_in st x) ++ l) (map-map st.elems st refl xs))
+map-map e st q xs = subst (λ (e : List ℕ). flat (map (λ s. frame_bytes 1 (record { payload = payload_of e s; size = bytes_of e s })) xs) ≡ flat (map (frame_bytes 1) (map (frame_in st) xs))) q (map-same st xs)
 
 pub run_length : (st : State) (x : ℕ) → length (run_in st x).frames ≡ size_at st x
 run_length st x = length-map (ring st x) (frame_in st) ∙ length-along (next_of st.elems) (size_at st x) x

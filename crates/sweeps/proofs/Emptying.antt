@@ -114,6 +114,7 @@ run-gone (suc n) st x r =
 -- ---- the lowest live slot
 
 first-low : (s : ℕ) (xs : List ℕ) → Rising xs → In s xs → ((t : ℕ) → In t xs → s ≤ t) → get_or xs 0 0 ≡ s
+first-low s [] r x3 low = elim x3 [ ]
 first-low s (x ∷ xs) r (inl e) low = sym e
 first-low s (x ∷ xs) r (inr m) low = absurd (omega (arith, all-at (λ y. x < y) s xs r.0 m, low x (inl refl)))
 
