@@ -1,4 +1,6 @@
 // Ticket 9: the ceiling on union work for a number of frames. It takes no tables.
+#![tactic(auto)]
+
 ghost use Rattle.std.specs.Prelude.{◌≡◌, false, ◌≤◌};
 ghost use Rattle.rules.specs.Answers.{said_number};
 ghost use Rattle.rules.specs.Ceiling.{highest_bit, union_ceiling};

@@ -1,5 +1,7 @@
 // A table copied to another (Ticket 10): every live slot to its own, the free ones below the last chained lowest first. One pass down, no scratch.
 // Ported from clone_from_with of surject_arena.rs (triple_arena 0.15.1, NOTICE).
+#![tactic(auto)]
+
 ghost use Rattle.std.specs.Prelude.{◌≡◌, true, false, ℕ, ◌≤◌, ◌<◌};
 ghost use Rattle.rules.specs.declared.Done.TheVariants as done;
 ghost use Rattle.rules.specs.Tables.{most_slots, state_of};

@@ -1,4 +1,6 @@
 // Parts of tables copied and zeroed, for compression: a ring to rows of the scratch, the first numbers of a slice, zeros over a part of one.
+#![tactic(auto)]
+
 ghost use Rattle.std.specs.Prelude.{◌≡◌, ◌+◌, ◌≤◌, ◌<◌, length};
 ghost use Rattle.rules.specs.Tables.{most_slots};
 ghost use Rattle.rules.specs.ReadFile.{before_in, after_in};

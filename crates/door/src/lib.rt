@@ -1,4 +1,6 @@
 // The host's door: every call for any tables, head and key; refusals 1 and 2 come first.
+#![tactic(auto)]
+
 pub use door_files::{read_file, write_file};
 pub use door_reads::{
     exchange_disjoint_shared, get, get_shared, get_size, get_total, in_same_surject, len_surject,

@@ -1,4 +1,6 @@
 // Run files at the host's door: the writer has the gate before it, the reader a door of its own. Nothing is required of the caller.
+#![tactic(auto)]
+
 ghost use Rattle.std.specs.Prelude.{◌≡◌, false, []};
 ghost use Rattle.rules.specs.Tables.{state_of};
 ghost use Rattle.rules.specs.Answers.{leaves, said_number, after_done};

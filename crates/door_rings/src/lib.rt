@@ -1,4 +1,6 @@
 // Whole runs at the host's door: the gate, then the call at the inner door. Nothing is required of the caller.
+#![tactic(auto)]
+
 ghost use Rattle.std.specs.Prelude.{false, []};
 ghost use Rattle.rules.specs.Tables.{state_of};
 ghost use Rattle.rules.specs.Answers.{leaves, said_number, afterSeal, after_number};

@@ -1,4 +1,6 @@
 // Two recorders' tables at the host's door: 1 for the source, 1 for the target, 2; then the call at the inner door. Nothing is required of the caller.
+#![tactic(auto)]
+
 ghost use Rattle.std.specs.Prelude.{◌≡◌, true};
 ghost use Rattle.rules.specs.Tables.{state_of};
 ghost use Rattle.rules.specs.Refusals.{shaped};

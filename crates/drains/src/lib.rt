@@ -1,5 +1,7 @@
 // Drain a run (Rules 10) at the inner door, frame by frame: equal to its rule, on a ready state.
 // Ported from drain_surject of surject_iterators.rs (triple_arena 0.15.1, NOTICE).
+#![tactic(auto)]
+
 ghost use Rattle.std.specs.Prelude.{◌≡◌, [], ◌∷◌, ◌++◌};
 ghost use Rattle.rules.specs.Notation.{if◌then◌else◌};
 ghost use Rattle.rules.specs.Tables.{row, state_of};

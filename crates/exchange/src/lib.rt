@@ -1,5 +1,7 @@
 // Rules 13: four-key exchange.
 // Ported from get_disjoint_shared_mut of surject_arena.rs, at four keys (triple_arena 0.15.1, NOTICE).
+#![tactic(auto)]
+
 ghost use Rattle.std.specs.Prelude.{◌≡◌, [], ◌∷◌};
 ghost use Rattle.rules.specs.Tables.{state_of, value_of};
 ghost use Rattle.rules.specs.Exchange.{all_differ, valued};

@@ -1,4 +1,6 @@
 // The reader's first pass (Ticket 11): does a file keep the layout of its version, and how many runs and frames does it hold. Nothing is written.
+#![tactic(auto)]
+
 ghost use Rattle.std.specs.Prelude.{◌≡◌, ◌+◌, ◌*◌, ◌≤◌, ◌<◌, length, drop};
 ghost use Rattle.rules.specs.RunFile.{total, frame_length, body, parse};
 ghost use Rattle.rules.proofs.Laws.Fixed.{frames_here, entry_here};

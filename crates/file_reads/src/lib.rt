@@ -1,4 +1,6 @@
 // The run file's reader (Ticket 11): its first pass tests the whole file, its second writes the tables, and nothing is tested twice.
+#![tactic(auto)]
+
 ghost use Rattle.std.specs.Prelude.{◌≡◌, [], map, ◌+◌, ◌*◌, ◌≤◌, ◌<◌, length, drop};
 ghost use Rattle.std.proofs.lemmas.List.Edits.{sets};
 ghost use Rattle.rules.specs.Notation.{flat};

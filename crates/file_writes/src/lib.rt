@@ -1,4 +1,6 @@
 // The run file's writer (Ticket 11): the contents, then the bodies into the rest of the lent bytes. Runs are met in canonical order by an upward scan with a set of the classes met.
+#![tactic(auto)]
+
 ghost use Rattle.std.specs.Prelude.{◌≡◌, false, ◌+◌, ◌*◌, ◌≤◌, ◌<◌, length};
 ghost use Rattle.std.proofs.lemmas.List.Edits.{sets};
 ghost use Rattle.rules.specs.Tables.{state_of};

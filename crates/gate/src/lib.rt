@@ -1,4 +1,6 @@
 // The host's gate: shape (1) and soundness (2), what the head remembers included (Ticket 7), before any call. Nothing is required of the caller.
+#![tactic(auto)]
+
 ghost use Rattle.std.specs.Prelude.{false, []};
 ghost use Rattle.rules.specs.Tables.{state_of};
 ghost use Rattle.rules.specs.Answers.{leaves, said_done};

@@ -1,4 +1,6 @@
 // The lent head: thirteen numbers (docs/LAYOUT.md).
+#![tactic(auto)]
+
 ghost use Rattle.std.specs.Prelude.{◌≡◌};
 ghost use Rattle.rules.specs.Notation.{if◌then◌else◌, ◌==◌};
 ghost use Rattle.numbers.specs.Numbers.{head_of};

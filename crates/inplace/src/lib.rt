@@ -1,4 +1,6 @@
 // The head lent in place (last form of document 01): the writer's two calls, thin, over the steps by value.
+#![tactic(auto)]
+
 pub mod at_door;
 
 ghost use Rattle.std.specs.Prelude.{◌≡◌, []};

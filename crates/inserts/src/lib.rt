@@ -1,5 +1,7 @@
 // New run and insert (Rules 4 and 5) at the inner door: each equal to its rule, on a ready state.
 // Ported from insert_surject_within_capacity and insert_within_capacity of surject_arena.rs (triple_arena 0.15.1, NOTICE).
+#![tactic(auto)]
+
 ghost use Rattle.std.specs.Prelude.{◌≡◌, [], ◌≤◌};
 ghost use Rattle.rules.specs.Tables.{most_bytes, state_of};
 ghost use Rattle.rules.specs.Runs.{begun, inserted};

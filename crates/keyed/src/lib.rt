@@ -1,5 +1,7 @@
 // Keys that the door says or writes, held to the frames that the Rust named. A key is kept for each frame as it is given:
 // 256 slots, then 256 generations.
+#![tactic(auto)]
+
 ghost use Rattle.std.specs.Prelude.{ℕ, ◌≤◌, ◌≡◌};
 ghost use Rattle.sample.specs.Sample.{answer_at, key_of, JoinsAs, JoinedAs, KeyAt, RingOf, ListsAs, ListedAs, DrainsAs, DrainedAs, OnlyIf};
 

@@ -1,4 +1,6 @@
 // The script program's lines (Script): found in the input block by block, and obeyed.
+#![tactic(auto)]
+
 mod obey;
 mod stream;
 

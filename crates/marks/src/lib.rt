@@ -1,4 +1,6 @@
 // A set of numbers as bits of lent words, 64 to a word: 1,024 words hold those below 65,536.
+#![tactic(auto)]
+
 ghost use Rattle.std.specs.Prelude.{◌≡◌, ℕ, ◌*◌, ◌<◌, length};
 ghost use Rattle.marks.specs.Marks.{marked, Added};
 

@@ -1,5 +1,7 @@
 // A study moved to other tables (Ticket 12): the source's rings gathered into the target's rows, then its headers laid beside them. No scratch.
 // Ported from transfer_canonical_reallocating of surject_arena.rs (triple_arena 0.15.1, NOTICE).
+#![tactic(auto)]
+
 ghost use Rattle.std.specs.Prelude.{◌≡◌, true, false};
 ghost use Rattle.rules.specs.declared.Done.TheVariants as done;
 ghost use Rattle.rules.specs.Tables as tables;

@@ -1,5 +1,7 @@
 // The map from the sample's frames to keys, kept as keys are given: a slot for each frame, then a generation for each.
 // Frame 255 was never given one.
+#![tactic(auto)]
+
 use keyed::wide;
 use rules::Key;
 

@@ -1,5 +1,7 @@
 // Compression that keeps the slot order and tells the new keys (Ticket 3), at the inner door: in place, linear and without scratch.
 // Ported from compress_with of impl_surject_arena_trait.rs (triple_arena 0.15.1, NOTICE).
+#![tactic(auto)]
+
 ghost use Rattle.std.specs.Prelude.{◌≡◌};
 ghost use Rattle.rules.specs.Tables.{state_of, elem_side, shared_side};
 ghost use Rattle.rules.specs.Answers.{after_number};

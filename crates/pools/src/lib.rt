@@ -1,4 +1,6 @@
 // The soundness check of one table: its extent, its free chain, zeros past the extent; and the shared slots.
+#![tactic(auto)]
+
 ghost use Rattle.std.specs.Prelude.{◌*◌, ◌≤◌, ◌<◌, length};
 ghost use Rattle.rules.specs.Tables.{cell, header_width};
 ghost use Rattle.rules.specs.Calls.{Is};

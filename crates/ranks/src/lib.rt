@@ -1,4 +1,6 @@
 // Slots renumbered in slot order, in place and without scratch (Ticket 3): a rank is kept in a number of the slot that is written anew anyway.
+#![tactic(auto)]
+
 ghost use Rattle.std.specs.Prelude.{◌≡◌, [], ◌∷◌, ◌<◌, ◌≤◌};
 ghost use Rattle.rules.specs.Tables.{most_slots, row};
 ghost use Rattle.rules.specs.Compress.{pair_width};

@@ -1,5 +1,7 @@
 // Reads (Rules 1, Ticket 5) at the inner door: each equal to its rule, on a ready state.
 // Ported from len_surject, in_same_surject and get_shared of surject_arena.rs (triple_arena 0.15.1, NOTICE).
+#![tactic(auto)]
+
 ghost use Rattle.std.specs.Prelude.{◌≡◌, false, []};
 ghost use Rattle.rules.specs.Tables.{state_of};
 ghost use Rattle.rules.specs.Calls.{Ready, step, len_surject, in_same_surject, get_element, get_shared, get_size, get_total, lookup};

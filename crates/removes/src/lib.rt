@@ -1,5 +1,7 @@
 // Remove (Rules 7) at the inner door: equal to its rule, on a ready state.
 // Ported from remove_element of surject_arena.rs (triple_arena 0.15.1, NOTICE).
+#![tactic(auto)]
+
 ghost use Rattle.std.specs.Prelude.{◌≡◌, List, [], ℕ};
 ghost use Rattle.rules.specs.Tables.{state_of};
 ghost use Rattle.rules.specs.Calls.{Ready, step, remove};

@@ -23,9 +23,9 @@ use Rattle.rules.proofs.Sounds.{trap}
 use Rattle.rules.proofs.CasesUndo.{trio, first_kept}
 
 -- what a row computes with, beside the other rules
-unfoldable pub copies : Type 0
+unfoldable pub copying : Type 0
 unfolding TwoTables.two_doors Copy.last_to Copy.free_from Copy.copied_table Copy.copied_pool Copy.clone_from
-copies = Unit {0}
+copying = Unit {0}
 
 -- ---- the source: the frames 2 and 5 are a run, 4 is a sealed one; 1 and 3 are free below them, 6 past them, chained highest first, and so it is with the headers
 abbrev pub study : State
@@ -101,7 +101,7 @@ table =
     []
 
 pub copied : map made table ≡ map meant table
-unfolding rules copies
+unfolding rules copying
 copied = refl
 
 -- ---- the door: 1 for the source, 1 for the target, 2, and then the rule
@@ -120,7 +120,7 @@ doors =
     []
 
 pub at-door : map made doors ≡ map meant doors
-unfolding rules copies
+unfolding rules copying
 at-door = refl
 
 -- ---- what a ruling on two tables leaves: accepted, both are the ruling's own; refused, both are as they were
@@ -130,11 +130,11 @@ ruled_both = refl
 
 -- ---- the last live slot and the lowest free one, at each end
 pub lasts : map (λ (st : State). last_live (elem_side st) ∷ last_live (shared_side st) ∷ []) (study ∷ full ∷ first ∷ drained ∷ []) ≡ (5 ∷ 4 ∷ []) ∷ (2 ∷ 1 ∷ []) ∷ (1 ∷ 1 ∷ []) ∷ (0 ∷ 0 ∷ []) ∷ []
-unfolding rules copies
+unfolding rules copying
 lasts = refl
 
 pub frees : map (λ n. free_from (elem_side study) n 2) (0 ∷ 1 ∷ 2 ∷ 3 ∷ []) ≡ 0 ∷ 0 ∷ 3 ∷ 3 ∷ []
-unfolding rules copies
+unfolding rules copying
 frees = refl
 
 -- ---- calls on the copy: reads as on the source; a dead key past the last live slot is past the extent; the next frame takes the lowest free slot

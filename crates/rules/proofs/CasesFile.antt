@@ -233,9 +233,9 @@ unfolding files
 around = refl
 
 -- ---- a call on what was read: the next key is of generation 1, the next slot and class past the last
-pub goes_on : (step (in_order 7 5) [] (new_run 70 700 3)).said.values ≡ 4 ∷ 1 ∷ []
+pub goes_on_lem : (step (in_order 7 5) [] (new_run 70 700 3)).said.values ≡ 4 ∷ 1 ∷ []
 unfolding rules
-goes_on = refl
+goes_on_lem = refl
 
 -- ---- the history: fresh, and the frames put in, slot by slot
 abbrev given : (slot bytes : ℕ) → Given

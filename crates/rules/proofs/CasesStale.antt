@@ -119,9 +119,11 @@ unfolding rules
 gives_no_other = (new, more)
   where
     new : Gives (step one [] (new_run 20 200 0)) (key 1 1) (new_run 20 200 0) → ⊥
+    new (renewed x3 _) = elim x3 [ ]
     new (begun payload value size e) = omega (arith, ap (λ (v : List ℕ). get_or v 0 0) e)
 
     more : Gives (step one [] (insert (key 1 1) 11 0)) (key 1 1) (insert (key 1 1) 11 0) → ⊥
+    more (renewed x3 _) = elim x3 [ ]
     more (put j payload size e) = omega (arith, ap (λ (v : List ℕ). get_or v 0 0) e)
 
 -- ---- frames taken: 2 is in the run of 1, and 4 is not
@@ -134,7 +136,9 @@ unfolding rules
 takes_no_other = (shared, run)
   where
     shared : Takes four (key 4 1) (remove_shared (key 1 1)) → ⊥
+    shared (compressed x'') = elim x'' [ ]
     shared (removed_shared j e) = omega (arith, e)
 
     run : Takes four (key 4 1) (drain (key 1 1)) → ⊥
+    run (compressed x'') = elim x'' [ ]
     run (drained j e) = omega (arith, e)

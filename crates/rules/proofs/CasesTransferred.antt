@@ -17,7 +17,7 @@ use Rattle.rules.proofs.CasesUndo.{first_kept}
 use Rattle.rules.proofs.Worked.{fresh43, drained}
 use Rattle.rules.proofs.Apart.{none}
 use Rattle.rules.proofs.Sounds.{trap}
-use Rattle.rules.proofs.CasesCopied.{copies, CopyCase, ◌copies◌, made, meant, study, dirty, full, first, took, left}
+use Rattle.rules.proofs.CasesCopied.{copying, CopyCase, ◌copies◌, made, meant, study, dirty, full, first, took, left}
 
 -- what a row computes with, beside the other rules
 unfoldable pub moves : Type 0
@@ -76,7 +76,7 @@ table =
     []
 
 pub transferred : map made table ≡ map meant table
-unfolding rules copies moves
+unfolding rules copying moves
 transferred = refl
 
 -- of the numbers that a u32 can be only 0 is no generation
@@ -102,7 +102,7 @@ doors =
     []
 
 pub at-door : map made doors ≡ map meant doors
-unfolding rules copies moves
+unfolding rules copying moves
 at-door = refl
 
 -- ---- the histories: for the target all old frames go and the moved ones come, for the source all go; nothing if refused, and not for an empty source
@@ -124,7 +124,7 @@ unfolding rules sorted begun_at ordered renamed
 moved_in = refl
 
 pub noted-to : noted_to held before 3 (transfer_step (dirty 3 2) study 3).said ∷ noted_to held before 3 (transfer_step (dirty 2 2) study 3).said ∷ [] ≡ after held.unjoined 9 6 ∷ held ∷ []
-unfolding rules copies moves sorted begun_at ordered renamed
+unfolding rules copying moves sorted begun_at ordered renamed
 noted-to = refl
 
 abbrev bare : History
@@ -132,7 +132,7 @@ bare = record { runs = []; unjoined = (key 5 4 ∷ []) ∷ []; sealed = []; size
 
 pub noted-from : noted_from before (transfer_step (dirty 3 2) study 3).said ∷ noted_from before (transfer_step (dirty 2 2) study 3).said ∷ noted_from bare (transfer_step (dirty 1 1) drained 9).said ∷ []
     ≡ record { runs = []; unjoined = before.unjoined; sealed = []; sizes = []; put = 7; taken = 7; generation = 6 } ∷ before ∷ bare ∷ []
-unfolding rules copies moves
+unfolding rules copying moves
 noted-from = refl
 
 -- ---- the code's result as an outcome

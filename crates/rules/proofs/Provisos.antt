@@ -21,7 +21,7 @@ use Rattle.rules.specs.Demand.{Sequence, from_fresh, and_then}
 use Rattle.rules.specs.Stale.{Ends, answer, Quietly, call, Since, given, begun, Later, now, later, TakenOut, taken, cleared}
 use Rattle.rules.proofs.Cases.{rules, key}
 use Rattle.rules.proofs.Worked.{fresh43}
-use Rattle.rules.proofs.CasesCopied.{copies}
+use Rattle.rules.proofs.CasesCopied.{copying, ◌copies◌}
 use Rattle.rules.proofs.CasesFile.{files, u4}
 use Rattle.rules.proofs.CasesTransferred.{moves}
 use Rattle.rules.proofs.Laws.Tests.{eq_is, is_false}
@@ -146,7 +146,7 @@ by-fresh = back _ false 2 at_once (refl, refl)
 
 -- Ticket 10: for a key that the target gave, a copy to it is a fresh call
 pub by_copy : BroughtBack (λ st. let o = clone_step st (empty 1 1 1) in record { said = o.said; state = o.target; lent = [] }) false
-unfolding rules copies
+unfolding rules copying
 by_copy = back _ false 2 at_once (refl, refl)
 
 -- Ticket 11: so is an accepted read, here of a file without runs
@@ -156,7 +156,7 @@ by_read = back _ false 2 at_once (refl, refl)
 
 -- Ticket 12: and so is a move to it
 pub by_move : BroughtBack (λ st. let o = transfer_step st (empty 1 1 1) 1 in record { said = o.said; state = o.target; lent = [] }) false
-unfolding rules copies moves
+unfolding rules copying moves
 by_move = back _ false 2 at_once (refl, refl)
 
 -- the clear's answer says overflow

@@ -157,9 +157,9 @@ unfolding rules sorted begun_at ordered renamed
 reset l d = compression l (replicate 24 0) (compress true) (canonical true) (ok [] (front 1) (replicate 24 0)) d refl
 
 -- and so does the one that keeps the slot order
-pub moved_down : Later behind behind_run (key 2 1 ∷ []) → AtDoor behind (replicate 4 0) (compress_with false) (ok (1 ∷ []) (front 3) (2 ∷ 1 ∷ 1 ∷ 3 ∷ [])) → Later (front 3) (front_run 3) (key 1 3 ∷ [])
+pub moved_down_lem : Later behind behind_run (key 2 1 ∷ []) → AtDoor behind (replicate 4 0) (compress_with false) (ok (1 ∷ []) (front 3) (2 ∷ 1 ∷ 1 ∷ 3 ∷ [])) → Later (front 3) (front_run 3) (key 1 3 ∷ [])
 unfolding rules moved_down
-moved_down l d = compression l (replicate 4 0) (compress_with false) (kept false) (ok (1 ∷ []) (front 3) (2 ∷ 1 ∷ 1 ∷ 3 ∷ [])) d refl
+moved_down_lem l d = compression l (replicate 4 0) (compress_with false) (kept false) (ok (1 ∷ []) (front 3) (2 ∷ 1 ∷ 1 ∷ 3 ∷ [])) d refl
 
 pub moved_down_reset : Later behind behind_run (key 2 1 ∷ []) → AtDoor behind (replicate 4 0) (compress_with true) (ok (1 ∷ []) (front 1) (2 ∷ 1 ∷ 1 ∷ 1 ∷ [])) → Later (front 1) (front_run 1) (key 1 1 ∷ [])
 unfolding rules moved_down

@@ -13,7 +13,7 @@ use Rattle.rules.specs.Copy.{AtCopy}
 use Rattle.rules.specs.Copying.{CopyGives}
 use Rattle.rules.proofs.Cases.{rules, key}
 use Rattle.rules.proofs.Forged.{forged, value_unwhole}
-use Rattle.rules.proofs.CasesCopied.{copies, study, dirty, into, took, left}
+use Rattle.rules.proofs.CasesCopied.{copying, study, dirty, into, took, left, ◌copies◌}
 use Rattle.rules.proofs.Laws.Kept.{recalled, kept, kept_fresh}
 use Rattle.rules.proofs.Laws.Dropped.{kept_memory}
 use Rattle.rules.proofs.Laws.TwoDoors.{both_pass}
@@ -36,11 +36,11 @@ unfolding rules
 study_ready = run-ready (empty 7 5 1) (kept_fresh (dirty 7 5) 7 5 refl) (inl refl) calls
 
 pub accepted : AtCopy (dirty 5 4) study (took (into 5 4) study)
-unfolding rules copies
+unfolding rules copying
 accepted = both_pass (dirty 5 4) study _ _ _ refl refl (study_ready.sound, inl refl) refl
 
 pub refused : AtCopy (dirty 4 3) study (left 5 (dirty 4 3) study)
-unfolding rules copies
+unfolding rules copying
 refused = both_pass (dirty 4 3) study _ _ _ refl refl (study_ready.sound, inl refl) refl
 
 -- Ticket 7: a memory that no union leaves makes the source unsound, and only 2 is given

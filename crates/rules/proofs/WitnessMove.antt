@@ -11,7 +11,7 @@ use Rattle.rules.specs.Moving.{MoveGives}
 use Rattle.rules.proofs.Cases.{rules}
 use Rattle.rules.proofs.Sounds.{trap, trap_unsound}
 use Rattle.rules.proofs.Forged.{forged, value_unwhole}
-use Rattle.rules.proofs.CasesCopied.{copies, study, dirty, took, left}
+use Rattle.rules.proofs.CasesCopied.{copying, study, dirty, took, left, ◌copies◌}
 use Rattle.rules.proofs.CasesTransferred.{moves, lands}
 use Rattle.rules.proofs.RefutedMove.{thirteen_first, thirteen_past, then_five, then_six, then_accepted}
 use Rattle.rules.proofs.WitnessCopied.{study_ready}
@@ -35,32 +35,32 @@ exact = ((kept_fresh (dirty 3 2) 3 2 refl).sound, inl refl)
 
 -- accepted, with exact room; and to tables that hold a study
 pub accepted : AtMove (empty 3 2 1) study 3 (took (lands 3 2 3) (empty 7 5 6))
-unfolding rules copies moves
+unfolding rules copying moves
 accepted = both_pass (empty 3 2 1) study _ _ _ refl refl (study_whole, exact) refl
 
 pub over_a_study : AtMove study study 3 (took (lands 7 5 3) (empty 7 5 6))
-unfolding rules copies moves
+unfolding rules copying moves
 over_a_study = both_pass study study _ _ _ refl refl (study_whole, study_whole) refl
 
 -- 2 of the source and of the target, 13, 5, 6
 pub source_unsound : AtMove study trap 0 (left 2 study trap)
-unfolding rules copies moves
+unfolding rules copying moves
 source_unsound = not_sound study trap _ _ refl refl (λ w. trap_unsound w.0.0)
 
 pub target_unsound : AtMove trap study 0 (left 2 trap study)
-unfolding rules copies moves
+unfolding rules copying moves
 target_unsound = not_sound trap study _ _ refl refl (λ w. trap_unsound w.1.0)
 
 pub refused_13 : AtMove (empty 2 1 1) study 0 (left 13 (empty 2 1 1) study)
-unfolding rules copies moves
+unfolding rules copying moves
 refused_13 = both_pass (empty 2 1 1) study _ _ _ refl refl (study_whole, small) refl
 
 pub refused_5 : AtMove (empty 2 1 1) study 3 (left 5 (empty 2 1 1) study)
-unfolding rules copies moves
+unfolding rules copying moves
 refused_5 = both_pass (empty 2 1 1) study _ _ _ refl refl (study_whole, small) refl
 
 pub refused_6 : AtMove (empty 3 1 1) study 3 (left 6 (empty 3 1 1) study)
-unfolding rules copies moves
+unfolding rules copying moves
 refused_6 = both_pass (empty 3 1 1) study _ _ _ refl refl (study_whole, narrow) refl
 
 -- Ticket 7: a memory that no union leaves makes either side unsound, and only 2 is given

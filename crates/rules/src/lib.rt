@@ -1,4 +1,5 @@
 // The types of document 01: head, key, refusals and answers. The rules are in specs/.
+#![tactic(auto)]
 
 ghost use Rattle.std.specs.Prelude.{◌≡◌, ◌+◌, ◌≤◌};
 ghost use Rattle.rules.specs.Notation.{◌==◌};
@@ -52,6 +53,7 @@ pub struct Pool {
 
 impl Pool {
     // Refusals 5 and 6: no slot can be taken.
+    #[tactic(auto, unfolding(crate::specs::Slots::is_full))]
     pub fn is_full(self) -> bool
         ensures { is_full self ≡ result }
     {
@@ -63,6 +65,7 @@ impl Pool {
     }
 
     // Rules 3: the slot that is taken next.
+    #[tactic(auto, unfolding(crate::specs::Slots::slot_of))]
     pub fn slot(self) -> u64
         requires { self.extent ≤ most_slots }
         ensures { result ≡ slot_of self }
@@ -95,6 +98,7 @@ impl Pool {
     }
 
     // Rules 3: a slot is freed.
+    #[tactic(auto, unfolding(crate::specs::Slots::freed))]
     pub fn push(mut self, slot: u64) -> Self
         requires { 1 ≤ self.live }
         ensures { result ≡ freed self slot }
@@ -224,6 +228,7 @@ impl Head {
     }
 
     // Rules, below the list: after the last generation comes 1.
+    #[tactic(auto, unfolding(crate::specs::Slots::raised))]
     pub fn raise(mut self) -> Raised
         requires { self.generation ≤ last_generation }
         ensures { result ≡ record { head = with_generation self (raised self.generation); over = self.generation == last_generation } }

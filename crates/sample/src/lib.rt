@@ -1,4 +1,6 @@
 // Whether what the door says is what the Rust said: each test is passed only where they agree (Running against the Rust).
+#![tactic(auto)]
+
 ghost use Rattle.std.specs.Prelude.{◌≡◌, false};
 ghost use Rattle.rules.specs.Refusals.{said_refused};
 ghost use Rattle.rules.specs.Answers.{said_done, said_number, said_same};

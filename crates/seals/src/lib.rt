@@ -1,4 +1,6 @@
 // Seal a run in one call (Ticket 1) at the inner door: equal to its rule, on a ready state. The Rust has no such call.
+#![tactic(auto)]
+
 ghost use Rattle.std.specs.Prelude.{◌≡◌, [], ◌∷◌, ◌*◌, ◌≤◌, length};
 ghost use Rattle.std.proofs.lemmas.List.Edits.{sets};
 ghost use Rattle.rules.specs.Tables.{row, state_of};

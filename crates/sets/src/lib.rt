@@ -1,5 +1,7 @@
 // Sets (Rules 1) at the inner door: each equal to its rule, on a ready state.
 // Ported from get_shared_mut of surject_arena.rs (triple_arena 0.15.1, NOTICE).
+#![tactic(auto)]
+
 ghost use Rattle.std.specs.Prelude.{◌≡◌, []};
 ghost use Rattle.rules.specs.Tables.{state_of};
 ghost use Rattle.rules.specs.Calls.{Ready, step, set_element, set_shared};

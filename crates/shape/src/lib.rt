@@ -1,4 +1,6 @@
 // The shape (Refusals 1): capacities in range, and tables as long as they say.
+#![tactic(auto)]
+
 ghost use Rattle.std.specs.Prelude.{◌≡◌, ◌≤◌};
 ghost use Rattle.rules.specs.Tables.{state_of};
 ghost use Rattle.rules.specs.Sound as sound;

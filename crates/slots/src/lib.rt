@@ -1,4 +1,6 @@
 // The slots of the lent tables: leaves, rows, taking and freeing, lookup and ring links (Modules 1 to 3).
+#![tactic(auto)]
+
 ghost use Rattle.std.specs.Prelude.{◌≡◌, List, [], ◌∷◌, ℕ, ◌+◌, ◌*◌, ◌≤◌, ◌<◌, length};
 ghost use Rattle.rules.specs.Tables.{frame_width, header_width, cell, put, row, state_of, with_pools, elem_side, shared_side, previous_of, next_of, class_of, is_sealed};
 ghost use Rattle.rules.specs.Slots.{taken, free_element, free_shared};

@@ -1,5 +1,7 @@
 // The soundness check, linear in the extents and capacities: the scan of the element slots, and the whole.
 // Ported from _check_surjects of surject_arena.rs (triple_arena 0.15.1, NOTICE), with what document 01 mends (docs/DIFFERENCES.md).
+#![tactic(auto)]
+
 ghost use Rattle.std.specs.Prelude.{◌≡◌, true, ◌*◌, ◌≤◌, length};
 ghost use Rattle.rules.specs.Tables.{state_of};
 ghost use Rattle.rules.specs.Sound as sound;

@@ -1,5 +1,7 @@
 // Headers swapped into the order of their runs, as in the Rust: class entry k says where run k's header is, and where a swap took the one that stood at k.
 // Ported from compress_canonical of surject_arena.rs, its swaps of headers (triple_arena 0.15.1, NOTICE).
+#![tactic(auto)]
+
 ghost use Rattle.rules.specs.Tables.{frame_width, header_width, class_of};
 ghost use Rattle.slots.specs.Asked.{Within};
 ghost use Rattle.swaps.specs.Swaps.{Trail, Followable, Exchanged, Brought, Permuting, Permuted};

@@ -1,5 +1,7 @@
 // Drain all (Rules 11) at the inner door, in one pass over the slots: equal to its rule, on a ready state.
 // Ported from drain_combined of surject_iterators.rs (triple_arena 0.15.1, NOTICE).
+#![tactic(auto)]
+
 ghost use Rattle.std.specs.Prelude.{◌≡◌, ◌*◌, ◌≤◌, length};
 ghost use Rattle.rules.specs.Tables.{state_of, size_at};
 ghost use Rattle.rules.specs.Drains.{record_width};

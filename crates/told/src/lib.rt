@@ -1,4 +1,6 @@
 // What the script program prints of an answer (Script): the answers in words and decimals, written into a lent buffer.
+#![tactic(auto)]
+
 pub mod answers;
 pub mod text;
 

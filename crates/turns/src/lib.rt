@@ -1,4 +1,6 @@
 // The soundness check of one free element slot, of one frame, and of one ring.
+#![tactic(auto)]
+
 ghost use Rattle.std.specs.Prelude.{◌*◌, ◌≤◌, ◌<◌, length};
 ghost use Rattle.rules.specs.Tables.{frame_width};
 ghost use Rattle.rules.specs.Calls.{Is};

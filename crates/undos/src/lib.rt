@@ -1,4 +1,6 @@
 // Undo (ticket 7) at the inner door, equal to its rule on a ready state whose memory is part of its soundness; and the check of that memory.
+#![tactic(auto)]
+
 ghost use Rattle.std.specs.Prelude.{◌≡◌, [], ◌<◌};
 ghost use Rattle.rules.specs.Notation.{steps};
 ghost use Rattle.rules.specs.Tables.{total_bound, state_of, next_of};

@@ -1,5 +1,7 @@
 // Union (Rules 6) at the inner door: equal to its rule, on a ready state.
 // Ported from union of surject_arena.rs (triple_arena 0.15.1, NOTICE).
+#![tactic(auto)]
+
 ghost use Rattle.std.specs.Prelude.{◌≡◌, []};
 ghost use Rattle.rules.specs.Notation.{if◌then◌else◌};
 ghost use Rattle.rules.specs.Tables.{state_of};

@@ -1,5 +1,7 @@
 // Rules 2 and 12: fresh and clear.
 // Ported from clear of impl_surject_arena_trait.rs (triple_arena 0.15.1, NOTICE).
+#![tactic(auto)]
+
 ghost use Rattle.std.specs.Prelude.{◌≡◌, List, [], ◌++◌, ℕ, ◌+◌, ◌*◌, ◌≤◌, ◌<◌, length, replicate, drop};
 ghost use Rattle.rules.specs.Tables.{frame_width, header_width, state_of};
 ghost use Rattle.rules.specs.Slots.{empty_pool, empty};

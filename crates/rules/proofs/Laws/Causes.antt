@@ -119,8 +119,8 @@ module _ (st : State) (k : Key) where
       second : Why st k FreeSlot → ⊥
       second w = live-none FreeSlot l (w, ((λ v. live-none NoSlot l (v, tt)), tt))
 
-  is_live : None (Why st k) causes → LiveKey st k
-  is_live n = go which
+  is_live_lem : None (Why st k) causes → LiveKey st k
+  is_live_lem n = go which
     where
       go : Either st k → LiveKey st k
       go (live l) = l
@@ -129,12 +129,13 @@ module _ (st : State) (k : Key) where
       go (dead OtherGeneration b) = absurd (n.1.1.0 b.0)
 
   pub live_exactly : LiveKey st k ↔ None (Why st k) causes
-  live_exactly = (live-is, is_live)
+  live_exactly = (live-is, is_live_lem)
 
 -- ---- of several keys, the first that is dead
 
 module _ (st : State) where
   pub first_dead_one : (ks : List Key) (c d : Cause) → FirstDead st c ks → FirstDead st d ks → c ≡ d
+  first_dead_one [] c d x'' _ = elim x'' [ ]
   first_dead_one (k ∷ ks) c d (inl p) (inl q) = causes_exclude st k c d p q
   first_dead_one (k ∷ ks) c d (inl p) (inr q) = absurd (live-none st k c q.0 p)
   first_dead_one (k ∷ ks) c d (inr p) (inl q) = absurd (live-none st k d p.0 q)
@@ -148,10 +149,12 @@ module _ (st : State) where
 
   -- Refusals 3: some key is not live
   pub dead-some : (ks : List Key) (c : Cause) → FirstDead st c ks → Some (λ k. LiveKey st k → ⊥) ks
+  dead-some [] c x' = elim x' [ ]
   dead-some (k ∷ ks) c (inl b) = inl (λ l. live-none st k c l b)
   dead-some (k ∷ ks) c (inr d) = inr (dead-some ks c d.1)
 
   pub some-dead : (ks : List Key) → Some (λ k. LiveKey st k → ⊥) ks → Some (λ c. FirstDead st c ks) causes
+  some-dead [] s = elim s [ ]
   some-dead (k ∷ ks) s = go (which st k) (λ r. some-dead ks r) s
     where
       among : (c : Cause) → Because st k c → Some (λ c. FirstDead st c (k ∷ ks)) causes

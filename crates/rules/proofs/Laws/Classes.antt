@@ -20,19 +20,20 @@ pub record Run (v : View) (r : List Key) : Type 0 where
   pub live : All (LiveKey v) r
   pub once : NoDup r
 
-pub runs_of : (v : View) (h : List (List Key)) → All (Cycle (next_key v)) h → All (LiveKey v) (flat h) → NoDup (flat h) → All (Run v) h
-runs_of v [] c l d = tt
-runs_of v (r ∷ h) c l d =
+pub runs_of_lem : (v : View) (h : List (List Key)) → All (Cycle (next_key v)) h → All (LiveKey v) (flat h) → NoDup (flat h) → All (Run v) h
+runs_of_lem v [] c l d = tt
+runs_of_lem v (r ∷ h) c l d =
     let p = all_parts (LiveKey v) r (flat h) l in
     let q = nodup_parts r (flat h) d in
-    (record { ring = c.0; live = p.0; once = q.0 }, runs_of v h c.1 p.1 q.1)
+    (record { ring = c.0; live = p.0; once = q.0 }, runs_of_lem v h c.1 p.1 q.1)
 
 pub first_run : (v : View) (r : List Key) (hs : List (List Key)) → Rep v (r ∷ hs) → Run v r
-first_run v r hs R = (runs_of v (r ∷ hs) R.rings R.live R.once).0
+first_run v r hs R = (runs_of_lem v (r ∷ hs) R.rings R.live R.once).0
 
 module _ (v : View) (S : Working v) where
   -- live keys with one slot are one key
   pub in_slots : (k : Key) (ks : List Key) → LiveKey v k → All (LiveKey v) ks → In k.slot (map slot ks) → In k ks
+  in_slots k [] l a x3 = elim x3 [ ]
   in_slots k (j ∷ js) l a (inl e) = inl (λ i. record { slot = e i; generation = (sym l.gen ∙ ap v.gen e ∙ a.0.gen) i })
   in_slots k (j ∷ js) l a (inr m) = inr (in_slots k js l a.1 m)
 

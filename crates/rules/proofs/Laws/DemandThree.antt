@@ -35,7 +35,7 @@ use Rattle.rules.proofs.Laws.Histories.Cleared.{good_start, good-fresh}
 use Rattle.rules.proofs.Laws.Copying.{accepted-is, capacities}
 use Rattle.rules.proofs.Laws.Histories.Copied.{good-copied}
 use Rattle.rules.proofs.Laws.ReadSound.{readable}
-use Rattle.rules.proofs.Laws.ReadRules.{accepted-read, runs_of}
+use Rattle.rules.proofs.Laws.ReadRules.{accepted-read, runs_of_lem}
 use Rattle.rules.proofs.Laws.Histories.Read.{good_read_tables}
 use Rattle.rules.proofs.Laws.Moving.{good_move_in, good_move_to, good_move_from}
 use Rattle.rules.proofs.Laws.EveryCall.{call-follows}
@@ -84,7 +84,7 @@ read_goes st h file b e c =
     let A = accepted-read old_reader st file b e in
     let rs = A.0 in
     let R = readable (value 4 file) st.head.elems.capacity st.head.shared.capacity rs A.1.fits.runs A.1.elems A.1.shared in
-    rw (A.1.now, runs_of old_reader st file rs A.1.holds) (good_read_tables st.head.elems.capacity st.head.shared.capacity rs R h c (capacities st A.1.holds.first.shape), inl refl)
+    rw (A.1.now, runs_of_lem old_reader st file rs A.1.holds) (good_read_tables st.head.elems.capacity st.head.shared.capacity rs R h c (capacities st A.1.holds.first.shape), inl refl)
 
 pub good-read : {st : State} {h : History} → Good st h → Recalls st h → (file : List ℕ) → Bytes file
     → Good (read_step st file).state (noted_read h (runs_of file) (read_step st file).said) × Recalls (read_step st file).state (noted_read h (runs_of file) (read_step st file).said)

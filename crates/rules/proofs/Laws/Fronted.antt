@@ -102,6 +102,7 @@ runs_but-none k (r ∷ rs) n = go (holds k r) (holds-is k r) (runs_but-none k rs
 -- the run of a key that the history holds, begun at the key, and the other runs
 pub fronted : (k : Key) (rs : List (List Key)) → NoDup (flat rs) → In k (flat rs) → Same rs (run_of k rs ∷ runs_but k rs)
 unfolding others_of runs_but
+fronted k [] d m = elim m [ ]
 fronted k (r ∷ rs) d m = go (holds k r) (holds-is k r) (λ i. fronted k rs (nodup_parts r (flat rs) d).1 i)
   where
     elsewhere : (In k r → ⊥) → In k r ⊎ In k (flat rs) → In k (flat rs)
@@ -120,6 +121,7 @@ fronted k (r ∷ rs) d m = go (holds k r) (holds-is k r) (λ i. fronted k rs (no
 -- the run of `j`, which is no run of `k`, among the runs that do not hold `k`
 pub others_but : (j k : Key) (rs : List (List Key)) → NoDup (flat rs) → In k (flat rs) → In j (flat (runs_but k rs)) → others_of j (runs_but k rs) ≡ others_of j rs
 unfolding others_of runs_but
+others_but j k [] d i m = elim i [ ]
 others_but j k (r ∷ rs) d i m = go (holds k r) (holds-is k r) m (λ i m. others_but j k rs (nodup_parts r (flat rs) d).1 i m)
   where
     within : In j r ⊎ In j (flat (runs_but k rs)) → (In j r → ⊥) → In j (flat (runs_but k rs))

@@ -13,7 +13,7 @@ use Rattle.rules.proofs.Laws.Pools.{live_in}
 use Rattle.rules.proofs.Laws.Count.{exact}
 use Rattle.rules.proofs.Laws.Working.{View, Working}
 use Rattle.rules.proofs.Laws.Rep.{key_at, LiveKey, Rep, slots_apart}
-use Rattle.rules.proofs.Laws.Classes.{Run, runs_of, run-size, one_class, own-run}
+use Rattle.rules.proofs.Laws.Classes.{Run, runs_of_lem, run-size, one_class, own-run}
 
 module _ (v : View) where
   abbrev pub headers : List (List Key) → List ℕ
@@ -23,12 +23,14 @@ module _ (v : View) where
 
   -- a header is that of some key
   whose : (c : ℕ) (rs : List (List Key)) → In c (headers rs) → (j : Key) × In j (flat rs) × (c ≡ v.class j.slot)
+  whose c [] m = elim m [ ]
   whose c ([] ∷ rs) m = whose c rs m
   whose c ((k ∷ ks) ∷ rs) (inl e) = (k, inl refl, e)
   whose c ((k ∷ ks) ∷ rs) (inr m) = let r = whose c rs m in (r.0, in_right r.0 (k ∷ ks) (flat rs) r.1, r.2)
 
   module _ (S : Working v) where
     header_in : (rs : List (List Key)) → All (Run v) rs → (j : Key) → In j (flat rs) → In (v.class j.slot) (headers rs)
+    header_in [] a j m = elim m [ ]
     header_in ([] ∷ rs) a j m = header_in rs a.1 j m
     header_in ((k ∷ ks) ∷ rs) a j m = go (in_parts j (k ∷ ks) (flat rs) m) (λ i. header_in rs a.1 j i)
       where
@@ -63,7 +65,7 @@ module _ (v : View) where
 
     module _ (rs : List (List Key)) (R : Rep v rs) where
       runs : All (Run v) rs
-      runs = runs_of v rs R.rings R.live R.once
+      runs = runs_of_lem v rs R.rings R.live R.once
 
       used : (c : ℕ) → In c (headers rs) → v.count c ≢ 0
       used c m = let w = whose c rs m in rw w.2 (S.class-live w.0.slot (all-at (LiveKey v) w.0 (flat rs) R.live w.1).live)

@@ -36,6 +36,7 @@ holds-is k (j ∷ js) = go (same_key k j) (same-is k j) (holds k js) (holds-is k
 
 -- a run that holds a key is what stands before it, the key, and what stands after it
 pub cut_at : (k : Key) (r : List Key) → In k r → r ≡ before k r ++ k ∷ after k r
+cut_at k [] m = elim m [ ]
 cut_at k (j ∷ js) m = go (same_key k j) (same-is k j) m (λ i. cut_at k js i)
   where
     go : (b : Bool) → Is (k ≡ j) b → In k (j ∷ js) → (In k js → js ≡ before k js ++ k ∷ after k js)
@@ -46,10 +47,12 @@ cut_at k (j ∷ js) m = go (same_key k j) (same-is k j) m (λ i. cut_at k js i)
 
 -- demand 3's membership and the laws'
 pub in_of : (k : Key) (r : List Key) → Demand.In k r → In k r
+in_of k [] x' = elim x' [ ]
 in_of k (j ∷ js) (inl e) = inl e
 in_of k (j ∷ js) (inr m) = inr (in_of k js m)
 
 pub in_to : (k : Key) (r : List Key) → In k r → Demand.In k r
+in_to k [] x' = elim x' [ ]
 in_to k (j ∷ js) (inl e) = inl e
 in_to k (j ∷ js) (inr m) = inr (in_to k js m)
 

@@ -26,6 +26,7 @@ module _ {A : Type 0} where
   all_map f (x ∷ xs) h = (f x h.0, all_map f xs h.1)
 
   pub all-at : (P : A → Type 0) (x : A) (xs : List A) → All P xs → In x xs → P x
+  all-at P x [] h x3 = elim x3 [ ]
   all-at P x (y ∷ ys) h (inl e) = rw e h.0
   all-at P x (y ∷ ys) h (inr m) = all-at P x ys h.1 m
 
@@ -47,6 +48,7 @@ module _ {A : Type 0} where
   all_parts P (x ∷ xs) ys h = let r = all_parts P xs ys h.1 in ((h.0, r.0), r.1)
 
   pub in_left : (a : A) (xs ys : List A) → In a xs → In a (xs ++ ys)
+  in_left a [] ys x' = elim x' [ ]
   in_left a (x ∷ xs) ys (inl e) = inl e
   in_left a (x ∷ xs) ys (inr m) = inr (in_left a xs ys m)
 
@@ -72,6 +74,7 @@ module _ {A : Type 0} where
 
   -- a member cuts the list
   unfoldable pub in_cut : (a : A) (xs : List A) → In a xs → (p : List A) × (q : List A) × (xs ≡ p ++ a ∷ q)
+  in_cut a [] x' = elim x' [ ]
   in_cut a (x ∷ xs) (inl e) = ([], xs, rw e)
   in_cut a (x ∷ xs) (inr m) = let r = in_cut a xs m in (x ∷ r.0, r.1, ap {B = List A} (λ l. x ∷ l) r.2)
 
@@ -149,6 +152,7 @@ module _ {A : Type 0} where
   cycle_turn n (x ∷ p) y q w = walk_turn n x y p q w
 
   pub cycle_frame : (n m : A → A) (xs : List A) → All (λ x. m x ≡ n x) xs → Cycle n xs → Cycle m xs
+  cycle_frame n m [] h w = elim w [ ]
   cycle_frame n m (x ∷ xs) h w = rw h.0 (walk-frame n m (n x) x xs h.1 w)
 
   pub cycles_frame : (n m : A → A) (h : List (List A)) → All (λ x. m x ≡ n x) (flat h) → All (Cycle n) h → All (Cycle m) h
@@ -181,11 +185,13 @@ module _ {A : Type 0} where
 
 module _ {A B : Type 0} (f : A → B) where
   pub in_map : (a : A) (xs : List A) → In a xs → In (f a) (map f xs)
+  in_map a [] x' = elim x' [ ]
   in_map a (x ∷ xs) (inl e) = inl (ap f e)
   in_map a (x ∷ xs) (inr m) = inr (in_map a xs m)
 
   -- what is in an image is the image of a member
   pub in_image : (b : B) (xs : List A) → In b (map f xs) → (a : A) × In a xs × (b ≡ f a)
+  in_image b [] x' = elim x' [ ]
   in_image b (x ∷ xs) (inl e) = (x, inl refl, e)
   in_image b (x ∷ xs) (inr m) = let r = in_image b xs m in (r.0, inr r.1, r.2)
 

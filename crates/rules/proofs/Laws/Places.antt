@@ -31,6 +31,7 @@ place_cases ys x y = go (eqb x y) (eqb→eq x y) (λ e. eqb_refl' e)
 
 -- a member stands at its place
 pub place_in : (x : ℕ) (xs : List ℕ) → In x xs → (1 ≤ place_of xs x) × (place_of xs x ≤ length xs) × (get_or xs (place_of xs x - 1) 0 ≡ x)
+place_in x [] m = elim m [ ]
 place_in x (y ∷ ys) m = go (place_cases ys x y) m (λ k. place_in x ys k)
   where
     go : ((x ≡ y) × (place_of (y ∷ ys) x ≡ 1)) ⊎ ((x ≢ y) × (place_of (y ∷ ys) x ≡ suc (place_of ys x))) → In x (y ∷ ys)

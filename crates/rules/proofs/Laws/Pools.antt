@@ -1,6 +1,6 @@
 -- One table's slots: which are live, the free chain, the extent; taking and freeing a slot. For both tables alike:
 -- `g` is the column that is 0 where a slot is free, `n` the column that holds the next free slot.
-use mathlib.Core.Path.{◌≡◌, refl, sym, ap, ◌∙◌}
+use mathlib.Core.Path.{◌≡◌, refl, sym, ap, ◌∙◌, subst}
 use mathlib.Core.Logic.{◌≢◌, ◌⊎◌, inl, inr}
 use mathlib.Core.List.{List, [], ◌∷◌}
 use mathlib.Core.Bool.{Bool, true, false}
@@ -65,7 +65,7 @@ lives_in g a v zero h l = absurd (omega arith)
 lives_in g a v (suc k) h l = go (λ m. lives_in g a v k h m) (ℕ_discrete a (suc k))
   where
     go : (a ≤ k → lives (upd g a v) k + sign (g a) ≡ lives g k + sign v) → Dec (a ≡ suc k) → lives (upd g a v) (suc k) + sign (g a) ≡ lives g (suc k) + sign v
-    go below (yes e) = rw (e, lives-out g (suc k) v k (omega arith), upd_same g (suc k) v) (omega arith)
+    go below (yes e) = omega (arith, lives-out g a v k (omega (arith, e)), ap sign (subst (λ (b : ℕ). upd g a v b ≡ v) e (upd_same g a v)), ap (λ (b : ℕ). sign (g b)) e)
     go below (no e) = rw (upd_other g a v (suc k) (omega arith)) (omega (arith, below (omega arith)))
 
 lives_more : (g : ℕ → ℕ) (a v k : ℕ) → 0 < a → a ≤ k → g a ≡ 0 → v ≢ 0 → lives (upd g a v) k ≡ lives g k + 1
@@ -131,6 +131,7 @@ chain-none : {g n : ℕ → ℕ} {r extent : ℕ} → r ≡ 0 → (c : Chain g n
 chain-none {g} {n} {r} {extent} e c s = go c.slots c.walk c.free
   where
     go : (xs : List ℕ) → Walk n r 0 xs → All (Free g extent) xs → In s xs → ⊥
+    go [] w f m = elim m [ ]
     go (x ∷ xs) w f m = omega (arith, e, w.0, f.0.low)
 
 -- what is free after one slot has changed: the slot itself, or what was free before

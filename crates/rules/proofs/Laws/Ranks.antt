@@ -44,6 +44,7 @@ rank_none (x ∷ xs) s a = rw (is_false (x ≤? s) (le_is x s) (λ h. omega (ari
 
 -- in a list that rises, a member's place is its rank
 pub place_rank : (xs : List ℕ) (s : ℕ) → Rising xs → In s xs → place_of xs s ≡ rank xs s
+place_rank [] s r m = elim m [ ]
 place_rank (x ∷ xs) s r m = go (place_cases xs s x) m (λ i. place_rank xs s r.1 i)
   where
     one : x ≤ s → rank (x ∷ xs) s ≡ suc (rank xs s)

@@ -90,5 +90,5 @@ accepted-read known st b k e = go (read_file known st b) refl (ruled known st b)
         (rs, record { holds = H; fits = w.fits; same = w.same; shared = l; elems = m; now = ap (outcome st []) f })
 
 -- the runs that a file holds, as the history has them
-pub runs_of : (known : List ℕ) (st : State) (b : List ℕ) (rs : List StoredRun) → Holds known st b rs → runs_of b ≡ rs
-runs_of known st b rs H = rw H.runs
+pub runs_of_lem : (known : List ℕ) (st : State) (b : List ℕ) (rs : List StoredRun) → Holds known st b rs → runs_of b ≡ rs
+runs_of_lem known st b rs H = rw H.runs

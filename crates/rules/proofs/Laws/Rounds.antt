@@ -71,6 +71,7 @@ module _ (e : List ℕ) (extent c x : ℕ) where
 
 -- what a walk meets was come to from a place of it
 pub pred_in : (n : ℕ → ℕ) (y b t : ℕ) (ys : List ℕ) → Walk n (n y) b ys → In t ys → (z : ℕ) × In z (y ∷ ys) × (n z ≡ t)
+pred_in n y b t [] w x'' = elim x'' [ ]
 pred_in n y b t (u ∷ us) w (inl q) = (y, inl refl, w.0 ∙ sym q)
 pred_in n y b t (u ∷ us) w (inr m) = let r = pred_in n u b t us w.1 m in (r.0, inr r.1, r.2)
 

@@ -41,7 +41,7 @@ module _ (st : State) where
 pub same_runs : (st st' : State) (m : renumber.Renaming) → Renumbered (view st) (view st') m → Working (view st) → Working (view st') → SameRuns st st' m.new m.new_class
 same_runs st st' m N W W' = record {
   frame = λ s f. live-frame st' W' (m.new s) (N.out s (frame-live st s f)).0;
-  own_val = λ s t f k e. sym (N.out s (frame-live st s f)).1 ∙ ap m.old e ∙ (N.out t (frame-live st t k)).1;
+  own = λ s t f k e. sym (N.out s (frame-live st s f)).1 ∙ ap m.old e ∙ (N.out t (frame-live st t k)).1;
   each = λ t f. let i = N.into t (frame-live st' t f) in (m.old t, live-frame st W (m.old t) i.0, i.1);
   header = λ c h. let l = header-live st c h in live-header st' W' (m.new_class c) (λ e. l (sym (N.counts c l) ∙ e));
   own_header = λ c d h k e. sym (N.class-out c (header-live st c h)) ∙ ap m.old_class e ∙ N.class-out d (header-live st d k);

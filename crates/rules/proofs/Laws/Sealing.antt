@@ -182,7 +182,7 @@ module _ (st : State) (h : History) (n : ℕ) (ks : List Key) (H : Held st h n k
         few = omega (arith, length-map ks (new_key h r), H.few);
       }
 
-since : {st st' : State} {h h' : History} {ks ks' : List Key} (n : ℕ) → Held st h n ks → Since st h ks st' h' ks' → Held st' h' n ks'
+since : {st : State} {h : History} {ks : List Key} {st' : State} {h' : History} {ks' : List Key} (n : ℕ) → Held st h n ks → Since st h ks st' h' ks' → Held st' h' n ks'
 since n H begin = H
 since n H (fresh {st' = s} {h' = g} {ks' = xs} a elems shared) = held-fresh s g n xs (since n H a) elems shared
 since n H (read {st' = s} {h' = g} {ks' = xs} a file b) = held-read s g n xs (since n H a) file b

@@ -1,5 +1,5 @@
 -- The book's soundness, a field for each clause of 01, and the working form are one: both directions.
-use mathlib.Core.Path.{◌≡◌, refl, sym, ap, ◌∙◌}
+use mathlib.Core.Path.{◌≡◌, refl, sym, ap, ◌∙◌, subst}
 use mathlib.Core.Logic.{◌≢◌}
 use mathlib.Core.Bool.{Bool, true, false, ◌&&◌}
 use mathlib.Core.List.{List, ◌∷◌, map}
@@ -12,7 +12,7 @@ use Rattle.rules.specs.Notation.{◌==◌, ◌≤?◌, steps, along, sum}
 use Rattle.rules.specs.Tables.{most_slots, last_generation, most_bytes, frame_width, header_width, next_of, State, elem_side, shared_side, size_at}
 use Rattle.rules.specs.Sound.{fits, both_fit, Sound, Frame, Header, OneRing, RingSize}
 use Rattle.rules.specs.Refusals.{shaped}
-use Rattle.rules.proofs.Laws.Lists.{Walk}
+use Rattle.rules.proofs.Laws.Lists.{Walk, In}
 use Rattle.rules.proofs.Laws.Steps.{length-along, along-walk, walk_end, walk_when, walk-once, all-along, along_once, reached, steps_stay, round_none_twice}
 use Rattle.rules.proofs.Laws.Pools.{Pooled, live_in}
 use Rattle.rules.proofs.Laws.Sides.{and_T, T_and, live_of, live_to, Kept, Blank, blank_of, pooled_of, kept_of}
@@ -106,7 +106,7 @@ module _ (st : State) (H : Shaped st) (S : Sound st) where
         round = round;
         once = along_once n (suc k) s (ring_none_twice s (suc k) f r);
         frames = all-along n (Working.Frame (view st).gen (view st).class c) (suc k) s (λ j l. record { live = gen_live (steps n j s) (on j); mine = sym (S.one_class s (steps n j s) f (on j) (j, refl)) ∙ e });
-        whole = λ t g. let o = S.own_class s t f (frame t g.live) (e ∙ sym g.mine) in rw (← o.1) (reached n s (along n k (n s)) round o.0);
+        whole = λ t g. let o = S.own_class s t f (frame t g.live) (e ∙ sym g.mine) in subst (λ (j : ℕ). In j (s ∷ along n k (n s))) o.1 (reached n s (along n k (n s)) round o.0);
         sized = ap suc (length-along n k (n s));
       }
 

@@ -138,6 +138,7 @@ module _ (st : State) (lent : List ℕ) (h : History) (G : Good st h) (k : Key) 
 
 -- the keys of a read
 past-generation : (k : Key) (a : ℕ) (rs : List StoredRun) → In k (flat (runs_past a rs)) → k.generation ≡ 1
+past-generation k a [] m = elim m [ ]
 past-generation k a (r ∷ rs) m = go (in_parts k (keys_past a (length r.frames)) (flat (runs_past (a + length r.frames) rs)) m) (past-generation k (a + length r.frames) rs)
   where
     go : In k (keys_past a (length r.frames)) ⊎ In k (flat (runs_past (a + length r.frames) rs)) → (In k (flat (runs_past (a + length r.frames) rs)) → k.generation ≡ 1) → k.generation ≡ 1

@@ -1,5 +1,5 @@
 -- Steps and walks: a book's walk is counted in steps, a working one lists what it meets. They are the same.
-use mathlib.Core.Path.{◌≡◌, refl, sym, ap, ◌∙◌}
+use mathlib.Core.Path.{◌≡◌, refl, sym, ap, ◌∙◌, subst⁻¹}
 use mathlib.Core.Logic.{◌≢◌, ◌⊎◌, inl, inr}
 use mathlib.Core.List.{List, [], ◌∷◌, ◌++◌}
 use Prim.Native.Nat.{ℕ, zero, suc, ◌+◌, ◌-◌, ◌≤◌, ◌<◌}
@@ -50,6 +50,7 @@ module _ {A : Type 0} (n : A → A) where
   met (suc k) (suc j) a h = inr (met k j (n a) (omega arith))
 
   pub when_met : (k : ℕ) (a x : A) → In x (along n k a) → (j : ℕ) × (j < k) × (steps n j a ≡ x)
+  when_met zero a x x3 = elim x3 [ ]
   when_met (suc k) a x (inl e) = (0, omega arith, sym e)
   when_met (suc k) a x (inr m) = let r = when_met k (n a) x m in (suc r.0, omega (arith, r.1), r.2)
 
@@ -82,6 +83,7 @@ module _ {A : Type 0} (n : A → A) where
 -- a walk that leads back to its start
 module _ {A : Type 0} (n : A → A) where
   closed : (a b y : A) (zs : List A) → Walk n a b zs → In y zs → (n y ≡ b) ⊎ In (n y) zs
+  closed a b y [] w x'' = elim x'' [ ]
   closed a b y (z ∷ []) w (inl e) = inl (ap n e ∙ w.1)
   closed a b y (z ∷ x ∷ zs) w (inl e) = inr (inr (inl (ap n e ∙ w.1.0)))
   closed a b y (z ∷ zs) w (inr m) = go (closed (n z) b y zs w.1 m)
@@ -93,7 +95,7 @@ module _ {A : Type 0} (n : A → A) where
   -- it meets whatever any number of steps lead to
   pub reached : (x : A) (xs : List A) → Walk n (n x) x xs → (k : ℕ) → In (steps n k x) (x ∷ xs)
   reached x xs w zero = inl refl
-  reached x xs w (suc k) = rw (steps-suc n k x) (go (closed x x (steps n k x) (x ∷ xs) (refl, w) (reached x xs w k)))
+  reached x xs w (suc k) = subst⁻¹ (λ (y : A). In y (x ∷ xs)) (steps-suc n k x) (go (closed x x (steps n k x) (x ∷ xs) (refl, w) (reached x xs w k)))
     where
       go : (n (steps n k x) ≡ x) ⊎ In (n (steps n k x)) (x ∷ xs) → In (n (steps n k x)) (x ∷ xs)
       go (inl e) = inl e

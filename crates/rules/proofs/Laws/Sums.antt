@@ -52,6 +52,7 @@ module _ {A : Type 0} where
 
   -- what is kept
   pub keep_in : (test : A → Bool) (x : A) (xs : List A) → In x xs → T (test x) → In x (keep test xs)
+  keep_in test x [] m t = elim m [ ]
   keep_in test x (y ∷ ys) m t = go (test y) m (λ e. ap test e) (λ i. keep_in test x ys i t)
     where
       go : (b : Bool) → In x (y ∷ ys) → (x ≡ y → test x ≡ b) → (In x ys → In x (keep test ys)) → In x (if b then y ∷ keep test ys else keep test ys)
@@ -61,6 +62,7 @@ module _ {A : Type 0} where
       go false (inr i) g f = f i
 
   pub keep_of : (test : A → Bool) (x : A) (xs : List A) → In x (keep test xs) → In x xs × T (test x)
+  keep_of test x [] m = elim m [ ]
   keep_of test x (y ∷ ys) m = go (test y) refl m (λ i. keep_of test x ys i)
     where
       go : (b : Bool) → test y ≡ b → In x (if b then y ∷ keep test ys else keep test ys) → (In x (keep test ys) → In x ys × T (test x)) → In x (y ∷ ys) × T (test x)
@@ -86,6 +88,7 @@ along_in (suc n) a s lo hi = go (ℕ_discrete s a) (λ l. along_in n (suc a) s l
     go (no e) f = inr (f (omega arith))
 
 pub along_of : (n a s : ℕ) → In s (along suc n a) → (a ≤ s) × (s < a + n)
+along_of zero a s x' = elim x' [ ]
 along_of (suc n) a s (inl e) = (omega arith, omega arith)
 along_of (suc n) a s (inr m) = let r = along_of n (suc a) s m in (omega (arith, r.0), omega (arith, r.1))
 

@@ -1,5 +1,5 @@
 -- Undo: the columns after it, and that it brings back the state before a union.
-use mathlib.Core.Path.{◌≡◌, refl, sym, ap, ◌∙◌, fun_ext}
+use mathlib.Core.Path.{◌≡◌, refl, sym, ap, ◌∙◌, fun_ext, subst⁻¹}
 use mathlib.Core.Logic.{◌≢◌}
 use mathlib.Core.List.{List, ◌∷◌, ◌++◌, map}
 use Prim.Native.Nat.{ℕ, zero, suc, ◌+◌, ◌-◌, ◌≤◌, ◌<◌}
@@ -94,7 +94,7 @@ module _ (st : State) (R : Ready st) (hx : (view st).gen st.head.undo.kept ≢ 0
       let k = crossed st.elems (view st).next refl x y (in_e x hx) (in_e y hy) (in_e ((view st).next x) (W.links.next-live x hx)) (in_e ((view st).next y) (W.links.next-live y hy)) in
       let l = length_exchanged st.elems x y in
       let r : Rewritten (exchanged st.elems x y) (rewritten st.head.undo.moved (exchanged st.elems x y) y d) d (y ∷ ys) =
-      rw sized at (walk-rewritten (y ∷ ys) (exchanged st.elems x y) y y d (refl, rw k.next (off_walk (view st) W x y hx ys xs cut full w)) (off_once (view st) W x y hx ys xs cut full w)
+      rw sized at (walk-rewritten (y ∷ ys) (exchanged st.elems x y) y y d (refl, subst⁻¹ (λ (n : ℕ → ℕ). Walk n (n y) y ys) k.next (off_walk (view st) W x y hx ys xs cut full w)) (off_once (view st) W x y hx ys xs cut full w)
       (all_of (Stored frame_width (exchanged st.elems x y)) (y ∷ ys) (λ s m. let q = in_e s (off (view st) W x y hx ys xs cut full w s m).live in record { low = q.low; high = rw l q.high }))) in
       let sd = taken_stored H.shared W.shared (popped W.shared full) in
       let sc = live_stored H.shared W.shared ((view st).class x) (W.class-live x hx) in

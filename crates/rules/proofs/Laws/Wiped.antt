@@ -44,6 +44,7 @@ wipe_zero (x ∷ xs) f s e = wipe_zero xs (upd f x 0) s (go (ℕ_discrete s x))
     go (no q) = upd_other f x 0 s q ∙ e
 
 pub wipe_in : (xs : List ℕ) (f : ℕ → ℕ) (s : ℕ) → In s xs → wipe xs f s ≡ 0
+wipe_in [] f s x' = elim x' [ ]
 wipe_in (x ∷ xs) f s (inl e) = wipe_zero xs (upd f x 0) s (rw (e, upd_same))
 wipe_in (x ∷ xs) f s (inr m) = wipe_in xs (upd f x 0) s m
 

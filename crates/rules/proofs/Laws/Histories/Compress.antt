@@ -23,7 +23,7 @@ use Rattle.rules.proofs.Laws.Order.{frames_listed, classes_listed}
 use Rattle.rules.proofs.Laws.Blocks.{runs_of, frames-flat}
 use Rattle.rules.proofs.Laws.Compress.{Order, compressed, by_place, there, renumbers, renumbered_gen, own_renumbers, canonical_order}
 use Rattle.rules.proofs.Laws.Rep.{key_at, next_key, LiveKey, Rep, rep_same, key_live, slots_apart}
-use Rattle.rules.proofs.Laws.Classes.{Run, runs_of, run-size}
+use Rattle.rules.proofs.Laws.Classes.{Run, runs_of_lem, run-size}
 use Rattle.rules.proofs.Laws.Histories.Renumber.{flat_image, rekeyed}
 use Rattle.rules.proofs.Laws.Histories.Sorting.{same_sort}
 use Rattle.rules.proofs.Laws.Histories.Sorted.{Led, runs_led, sort_lows}
@@ -46,6 +46,7 @@ run_turn v p k q r =
 -- ---- the place of a key among keys is that of its slot among slots
 before-place : (v : View) (s : ℕ) (fs : List ℕ) → In s fs → suc (length (before (key_at v s) (map (key_at v) fs))) ≡ place_of fs s
 unfolding place_of
+before-place v s [] m = elim m [ ]
 before-place v s (y ∷ ys) m = go (ℕ_discrete s y) m (λ i. before-place v s ys i)
   where
     go : Dec (s ≡ y) → In s (y ∷ ys) → (In s ys → suc (length (before (key_at v s) (map (key_at v) ys))) ≡ place_of ys s)
@@ -87,7 +88,7 @@ module _ (st : State) (W : Working (view st)) where
   ordered-is h R =
       let hs = foldr sorted [] h in
       let Rs = rep_same v (same_sort h) R in
-      ap {B = List Key} flat (each hs (runs_of v hs Rs.rings Rs.live Rs.once) (runs_led st W hs Rs)
+      ap {B = List Key} flat (each hs (runs_of_lem v hs Rs.rings Rs.live Rs.once) (runs_led st W hs Rs)
       ∙ sym (map-map (map (key_at v)) (λ r. ring st (lowest_of r)) hs) ∙ ap (map (map (key_at v))) (sym (map-map (ring st) lowest_of hs) ∙ ap (map (ring st)) (sort_lows st W h R)))
       ∙ flat_image (key_at v) (runs_of st) ∙ ap (map (key_at v)) (sym (frames-flat st))
     where

@@ -58,6 +58,7 @@ module _ (st : State) (h : History) (G : Good st h) where
       slots = keep (is_live (elem_side st)) (up_to st.head.elems.extent)
 
       first : (xs : List ℕ) → In s xs → In (get_or xs 0 0) xs
+      first [] m = elim m [ ]
       first (x ∷ xs) m = inl refl
 
 -- the key of the lowest live slot, where there is a run

@@ -1,5 +1,5 @@
 -- Insert steps the history: the new key stands immediately after the target (Rules 5).
-use mathlib.Core.Path.{◌≡◌, refl, sym, ap, ◌∙◌, subst}
+use mathlib.Core.Path.{◌≡◌, refl, sym, ap, ◌∙◌, subst, subst⁻¹}
 use mathlib.Core.Logic.{◌≢◌, inl, inr}
 use mathlib.Core.Bool.{false}
 use mathlib.Core.List.{List, ◌∷◌, ◌++◌}
@@ -68,7 +68,7 @@ module _ (v v' : View) (k : Key) (i : ℕ) (L : Links v.gen v.prev v.next) (S : 
 
       whole : (s : ℕ) → v'.gen s ≢ 0 → Dec (s ≡ i) → In (key_at v' s) (k ∷ key_at v' i ∷ (xs ++ flat hs))
       whole s h (yes e) = inr (inl (ap (key_at v') e))
-      whole s h (no e) = let l : v.gen s ≢ 0 = rw (S.g_o s e) at h in rw (keeps s l) (put_in (key_at v s) (R.whole s l))
+      whole s h (no e) = let l : v.gen s ≢ 0 = rw (S.g_o s e) at h in subst⁻¹ (λ (j : Key). In j (k ∷ key_at v' i ∷ (xs ++ flat hs))) (keeps s l) (put_in (key_at v s) (R.whole s l))
 
   pub rep_insert : (h : List (List Key)) → LiveKey v k → Rep v h → Rep v' (inserted_runs k (key_at v' i) h)
   unfolding inserted_runs

@@ -1,5 +1,5 @@
 -- New run steps the history: a run of one key (Rules 4).
-use mathlib.Core.Path.{◌≡◌, refl, sym, ap, ◌∙◌, subst}
+use mathlib.Core.Path.{◌≡◌, refl, sym, ap, ◌∙◌, subst, subst⁻¹}
 use mathlib.Core.Logic.{◌≢◌, inl, inr}
 use mathlib.Core.Bool.{false}
 use mathlib.Core.List.{List, [], ◌∷◌}
@@ -52,7 +52,7 @@ module _ (v v' : View) (i : ℕ) (L : Links v.gen v.prev v.next) (unused : v.gen
 
       whole : (s : ℕ) → v'.gen s ≢ 0 → Dec (s ≡ i) → In (key_at v' s) (key_at v' i ∷ flat h)
       whole s l (yes e) = inl (ap (key_at v') e)
-      whole s l (no e) = let m : v.gen s ≢ 0 = rw (g_o s e) at l in inr (rw (keeps s m) (R.whole s m))
+      whole s l (no e) = let m : v.gen s ≢ 0 = rw (g_o s e) at l in inr (subst⁻¹ (λ (j : Key). In j (flat h)) (keeps s m) (R.whole s m))
 
 -- state and history together
 module _ (st : State) (h : History) (G : Good st h) (payload value size : ℕ) (some : is_full st.head.elems ≡ false) (some' : is_full st.head.shared ≡ false) where

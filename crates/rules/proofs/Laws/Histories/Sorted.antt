@@ -23,7 +23,7 @@ use Rattle.rules.proofs.Laws.Working.{View, view, Working}
 use Rattle.rules.proofs.Laws.Order.{Looked, free, first, later, looked, round, Mine}
 use Rattle.rules.proofs.Laws.Rep.{key_at, LiveKey, Rep, rep_same, slots_apart}
 use Rattle.rules.proofs.Laws.Histories.Sorting.{same_sort, rising_sort}
-use Rattle.rules.proofs.Laws.Classes.{Run, runs_of, one_class, own-run, run-size}
+use Rattle.rules.proofs.Laws.Classes.{Run, runs_of_lem, one_class, own-run, run-size}
 
 -- ---- the lowest key of a run
 pub record Low (r : List Key) : Type 0 where
@@ -58,6 +58,7 @@ pub record Led (st : State) (r : List Key) : Type 0 where
   pub leads : In (lowest_of r) (lowest_slots st)
 
 in_flat : (k : Key) (h : List (List Key)) → In k (flat h) → (r : List Key) × In r h × In k r
+in_flat k [] m = elim m [ ]
 in_flat k (r ∷ h) m = go (in_parts k r (flat h) m) (λ i. in_flat k h i)
   where
     go : In k r ⊎ In k (flat h) → (In k (flat h) → (r : List Key) × In r h × In k r) → (q : List Key) × In q (r ∷ h) × In k q
@@ -65,6 +66,7 @@ in_flat k (r ∷ h) m = go (in_parts k r (flat h) m) (λ i. in_flat k h i)
     go (inr i) f = let t = f i in (t.0, inr t.1, t.2)
 
 flat_in : (k : Key) (r : List Key) (h : List (List Key)) → In r h → In k r → In k (flat h)
+flat_in k r [] x'' m = elim x'' [ ]
 flat_in k r (q ∷ h) (inl e) m = in_left k q (flat h) (rw (← e) m)
 flat_in k r (q ∷ h) (inr i) m = in_right k q (flat h) (flat_in k r h i m)
 
@@ -106,7 +108,7 @@ module _ (st : State) (W : Working (view st)) where
 
   -- every run
   pub runs_led : (hs : List (List Key)) → Rep (view st) hs → All (Led st) hs
-  runs_led hs R = all_map run_led hs (runs_of v hs R.rings R.live R.once)
+  runs_led hs R = all_map run_led hs (runs_of_lem v hs R.rings R.live R.once)
 
   -- two runs have two lowest slots
   lows_once : (hs : List (List Key)) → All (Led st) hs → NoDup (flat hs) → NoDup (map lowest_of hs)

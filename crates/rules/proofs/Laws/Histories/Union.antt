@@ -62,7 +62,7 @@ module _ (v v' : View) (a b : Key) (X : Exchanged v.prev v.next v'.prev v'.next 
         live = all_of (LiveKey v') ((a ∷ (ys ++ b ∷ xs)) ++ flat hs) (λ x m. stays x (all-at (LiveKey v) x (flat ((b ∷ ys) ∷ (a ∷ xs) ∷ hs)) R.live
             (subst (λ (l : List Key). In x l) shape (in_over x (a ∷ (ys ++ b ∷ xs)) (b ∷ (ys ++ a ∷ xs)) (flat hs) (in_exchange x b a xs ys) m))));
         once = nodup_over (b ∷ (ys ++ a ∷ xs)) (a ∷ (ys ++ b ∷ xs)) (flat hs) (λ x. in_exchange x b a xs ys) (nodup_exchange a b xs ys (nodup_parts (b ∷ (ys ++ a ∷ xs)) (flat hs) d).0) d;
-        whole = λ s h. rw (keeps s) (in_over (key_at v s) (b ∷ (ys ++ a ∷ xs)) (a ∷ (ys ++ b ∷ xs)) (flat hs) (in_exchange (key_at v s) a b xs ys) (subst⁻¹ (λ (l : List Key). In (key_at v s) l) shape (R.whole s (rw (g_same s) at h))));
+        whole = λ s h. subst⁻¹ (λ (j : Key). In j ((a ∷ (ys ++ b ∷ xs)) ++ flat hs)) (keeps s) (in_over (key_at v s) (b ∷ (ys ++ a ∷ xs)) (a ∷ (ys ++ b ∷ xs)) (flat hs) (in_exchange (key_at v s) a b xs ys) (subst⁻¹ (λ (l : List Key). In (key_at v s) l) shape (R.whole s (rw (g_same s) at h))));
       }
     where
       shape : (b ∷ (ys ++ a ∷ xs)) ++ flat hs ≡ flat ((b ∷ ys) ∷ (a ∷ xs) ∷ hs)
