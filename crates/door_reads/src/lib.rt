@@ -3,7 +3,7 @@
 
 ghost use Rattle.std.specs.Prelude.{false, []};
 ghost use Rattle.rules.specs.Tables.{state_of};
-ghost use Rattle.rules.specs.Answers.{leaves, said_done, said_number, said_same, after_number, afterExchanged};
+ghost use Rattle.rules.specs.Answers.{leaves, said_done, said_number, said_same, after_number, after_exchanged};
 ghost use Rattle.rules.specs.Calls.{AtDoor, len_surject, in_same_surject, get_element, get_shared, get_size, get_total, lookup, set_element, set_shared, exchange};
 
 use gate::gate;
@@ -115,7 +115,7 @@ pub fn exchange_disjoint_shared(
     keys: [Key; 4],
     values: [u64; 4],
 ) -> HeadExchanged
-    ensures { AtDoor (state_of head elems.now shared.old) [] (exchange keys values) (afterExchanged result elems.now shared.new []) }
+    ensures { AtDoor (state_of head elems.now shared.old) [] (exchange keys values) (after_exchanged result elems.now shared.new []) }
 {
     match gate(head, elems, shared) {
         Done::Refused(n) => {

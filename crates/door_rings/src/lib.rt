@@ -3,7 +3,7 @@
 
 ghost use Rattle.std.specs.Prelude.{false, []};
 ghost use Rattle.rules.specs.Tables.{state_of};
-ghost use Rattle.rules.specs.Answers.{leaves, said_number, afterSeal, after_number};
+ghost use Rattle.rules.specs.Answers.{leaves, said_number, after_seal, after_number};
 ghost use Rattle.rules.specs.Calls.{AtDoor, remove_shared, list, drain, seal, drain_all};
 
 use gate::gate;
@@ -55,7 +55,7 @@ pub fn drain(
 
 // Ticket 1: seal a run.
 pub fn seal(head: Head, elems: &[u64], shared: &mut [u64], key: Key, out: &mut [u64]) -> HeadSeal
-    ensures { AtDoor (state_of head elems.now shared.old) out.old (seal key) (afterSeal result elems.now shared.new out.new) }
+    ensures { AtDoor (state_of head elems.now shared.old) out.old (seal key) (after_seal result elems.now shared.new out.new) }
 {
     match gate(head, elems, shared) {
         Done::Refused(n) => HeadSeal {

@@ -1,4 +1,5 @@
 -- Drain a run: its steps, the loop's invariant, and the call's ways.
+use Rattle.std.specs.Prelude.{if◌then◌else◌}
 use Prim.Native.Nat.{ℕ, zero, suc, ◌+◌, ◌*◌, ◌-◌, ◌≤◌, ◌<◌}
 use mathlib.Core.Path.{◌≡◌, refl, sym, ap, ◌∙◌}
 use mathlib.Core.Logic.{◌≢◌}
@@ -14,7 +15,6 @@ use Rattle.rules.specs.declared.Rest.TheVariants.{GoesOn, Last}
 use Rattle.rules.specs.declared.Found.TheVariants as lookup
 use Rattle.rules.specs.declared.Cause.{Cause}
 use Rattle.rules.specs.declared.Refusal.TheVariants.{Dead, Short}
-use Rattle.rules.specs.Notation.{if◌then◌else◌}
 use Rattle.rules.specs.Tables.{next_of, State, row, found, size_at}
 use Rattle.rules.specs.Refusals.{outcome, said_accepted, refuse}
 use Rattle.rules.specs.Runs.{removed, rest_of}

@@ -2,8 +2,7 @@
 // Ported from drain_surject of surject_iterators.rs (triple_arena 0.15.1, NOTICE).
 #![tactic(auto)]
 
-ghost use Rattle.std.specs.Prelude.{◌≡◌, [], ◌∷◌, ◌++◌};
-ghost use Rattle.rules.specs.Notation.{if◌then◌else◌};
+ghost use Rattle.std.specs.Prelude.{◌≡◌, [], ◌∷◌, ◌++◌, if◌then◌else◌};
 ghost use Rattle.rules.specs.Tables.{row, state_of};
 ghost use Rattle.rules.specs.Drains.{record_width, rest_fields};
 ghost use Rattle.rules.specs.Calls as calls;

@@ -1,7 +1,6 @@
 -- What the exchange's steps answer.
-use Rattle.std.specs.Prelude.{ℕ, List, map}
+use Rattle.std.specs.Prelude.{ℕ, List, map, if◌then◌else◌}
 use Rattle.rules.specs.declared.Refusal.TheVariants.{SameClass}
-use Rattle.rules.specs.Notation.{if◌then◌else◌}
 use Rattle.rules.specs.Tables.{class_of, value_of, State, with_shared, forgetting}
 use Rattle.rules.specs.Refusals.{Ruling, refuse, answer}
 use Rattle.rules.specs.Exchange.{all_differ, valued}

@@ -6,7 +6,7 @@ ghost use Rattle.std.specs.Prelude.{◌≡◌, [], ◌∷◌};
 ghost use Rattle.rules.specs.Tables.{state_of, value_of};
 ghost use Rattle.rules.specs.Exchange.{all_differ, valued};
 ghost use Rattle.rules.specs.Calls.{Ready, step, exchange};
-ghost use Rattle.rules.specs.Answers.{said_exchanged, afterExchanged};
+ghost use Rattle.rules.specs.Answers.{said_exchanged, after_exchanged};
 ghost use Rattle.rules.specs.Refusals.{said_refused, outcome};
 ghost use Rattle.exchange.specs.Asked.{FourHeaders, FourClassed};
 ghost use Rattle.exchange.specs.Answered.{exchange_at};
@@ -79,7 +79,7 @@ fn exchange_at(
     values: [u64; 4],
 ) -> HeadExchanged
     requires { FourClassed elems.now shared.old w x y z }
-    ensures { afterExchanged result elems.now shared.new [] ≡ outcome (state_of head elems.now shared.old) [] (exchange_at (state_of head elems.now shared.old) (w ∷ x ∷ y ∷ z ∷ []) values) }
+    ensures { after_exchanged result elems.now shared.new [] ≡ outcome (state_of head elems.now shared.old) [] (exchange_at (state_of head elems.now shared.old) (w ∷ x ∷ y ∷ z ∷ []) values) }
 {
     let a = slots::get(elems, FRAME, CLASS, w);
     let b = slots::get(elems, FRAME, CLASS, x);
@@ -109,7 +109,7 @@ fn exchange_four(
     values: [u64; 4],
 ) -> HeadExchanged
     requires { Ready (state_of head elems.now shared.old) }
-    ensures { afterExchanged result elems.now shared.new [] ≡ step (state_of head elems.now shared.old) [] (exchange (first ∷ second ∷ third ∷ fourth ∷ []) values) }
+    ensures { after_exchanged result elems.now shared.new [] ≡ step (state_of head elems.now shared.old) [] (exchange (first ∷ second ∷ third ∷ fourth ∷ []) values) }
 {
     let w = match slots::find(head, elems, first) {
         Found::Live(w) => w,
@@ -139,7 +139,7 @@ pub fn exchange_disjoint_shared(
     values: [u64; 4],
 ) -> HeadExchanged
     requires { Ready (state_of head elems.now shared.old) }
-    ensures { afterExchanged result elems.now shared.new [] ≡ step (state_of head elems.now shared.old) [] (exchange keys values) }
+    ensures { after_exchanged result elems.now shared.new [] ≡ step (state_of head elems.now shared.old) [] (exchange keys values) }
 {
     let first = keys[0];
     let second = keys[1];

@@ -1,4 +1,5 @@
 -- One body: each way out of its check is what the rules read there.
+use Rattle.std.specs.Prelude.{if◌then◌else◌, ◌==◌}
 use Prim.Native.Nat.{ℕ, zero, suc, ◌+◌, ◌*◌, ◌-◌, ◌≤◌, ◌<◌}
 use mathlib.Core.Path.{◌≡◌, refl, sym, ap, ◌∙◌, subst}
 use mathlib.Core.Bool.{Bool, true, false, ◌&&◌}
@@ -8,7 +9,7 @@ use native.Mathlib.Nat.{mul-le-mul_left}
 use borrow.Author.Tests.{le-leb, lt-leb, eq-eqb, ne_eqb}
 use lib.ListN.{length, drop, length-drop}
 use lib.Seq.{drop-drop}
-use Rattle.rules.specs.Notation.{if◌then◌else◌, ◌==◌, ◌≤?◌}
+use Rattle.rules.specs.Notation.{◌≤?◌}
 use Rattle.rules.specs.Bytes.{Got, unread, got, return, reject, value}
 use Rattle.rules.specs.RunFile.{StoredRun, total, frame_length, body_length, body}
 use Rattle.rules.proofs.Laws.Fixed.{each-length, frame_here, frames_here, count_here, run_here, body_short, body-cut, body-told}

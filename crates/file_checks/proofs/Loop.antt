@@ -1,4 +1,5 @@
 -- The loop over the runs: what was read, and what is left to read.
+use Rattle.std.specs.Prelude.{if◌then◌else◌, ◌==◌}
 use Prim.Native.Nat.{ℕ, zero, suc, ◌+◌, ◌*◌, ◌-◌, ◌≤◌, ◌<◌}
 use mathlib.Core.Path.{◌≡◌, refl, sym, ap, ◌∙◌, subst}
 use mathlib.Core.Bool.{Bool, true, false, ◌&&◌}
@@ -7,7 +8,7 @@ use native.Mathlib.Omega.{arith}
 use native.Mathlib.Nat.{mul-le-mul_left}
 use lib.ListN.{length, drop, length-append, length-drop}
 use lib.Seq.{drop-drop, drop-length}
-use Rattle.rules.specs.Notation.{if◌then◌else◌, ◌==◌, sum}
+use Rattle.rules.specs.Notation.{sum}
 use Rattle.rules.specs.Bytes.{Got, unread, got, Reader, onward, return, reject, value}
 use Rattle.rules.specs.RunFile.{StoredRun, Entry, frame_length, body_length, frame_count, first_body, body, entry, bodies, runs, Parsed, departs, holds, whole, parse}
 use Rattle.rules.proofs.Laws.Numbers.{number-some}

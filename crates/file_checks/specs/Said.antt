@@ -1,6 +1,5 @@
 -- What the first pass answers, from what the rules read.
-use Rattle.std.specs.Prelude.{ℕ, ◌+◌, Bool, ◌&&◌, List, [], ◌∷◌, map, length}
-use Rattle.rules.specs.Notation.{if◌then◌else◌, ◌==◌}
+use Rattle.std.specs.Prelude.{ℕ, ◌+◌, Bool, ◌&&◌, List, [], ◌∷◌, map, length, if◌then◌else◌, ◌==◌}
 use Rattle.rules.specs.Bytes.{Got, unread, got}
 use Rattle.rules.specs.RunFile.{StoredRun, Entry, body_length, frame_count, Parsed, departs, holds}
 use Rattle.file_checks.specs.declared.Next.{Next}

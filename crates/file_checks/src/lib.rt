@@ -12,14 +12,14 @@ use littles::{get4, get8};
 const FRAME_LENGTH: usize = 12;
 
 // A body that was read: the place after it, and its number of frames.
-#[derive(Drop)]
+#[derive(Clone, Copy)]
 pub enum Next {
     At(usize, u64),
     Departs,
 }
 
 // A file that was read: its numbers of runs and frames.
-#[derive(Drop)]
+#[derive(Clone, Copy)]
 pub enum Checked {
     Holds(u64, u64),
     Departs,

@@ -1,4 +1,5 @@
 -- What the first pass read stands in the bytes, run after run.
+use Rattle.std.specs.Prelude.{if◌then◌else◌, ◌==◌}
 use Prim.Native.Nat.{ℕ, zero, suc, ◌+◌, ◌*◌, ◌-◌, ◌≤◌, ◌<◌}
 use mathlib.Core.Path.{◌≡◌, refl, sym, ap, ◌∙◌, subst}
 use mathlib.Core.Bool.{Bool, true, false, ◌&&◌}
@@ -8,7 +9,7 @@ use native.Mathlib.Decide.{dec_lt}
 use borrow.Author.Tests.{eqb-true}
 use lib.ListN.{length, drop, length-drop}
 use lib.Seq.{drop-drop}
-use Rattle.rules.specs.Notation.{if◌then◌else◌, ◌==◌, ◌≤?◌}
+use Rattle.rules.specs.Notation.{◌≤?◌}
 use Rattle.rules.specs.Bytes.{Got, unread, got, onward, return, reject, times, value}
 use Rattle.rules.specs.RunFile.{StoredFrame, StoredRun, Entry, total, frame_length, body_length, first_body, frame_count, body, entry, bodies, runs, Parsed, departs, holds, whole, parse}
 use Rattle.rules.specs.ReadFile.{held_in}

@@ -1,4 +1,5 @@
 -- The two scans over the slots: what is stored, and what is left to store.
+use Rattle.std.specs.Prelude.{if◌then◌else◌}
 use Prim.Native.Nat.{ℕ, zero, suc, ◌+◌, ◌*◌, ◌-◌, ◌≤◌, ◌<◌}
 use mathlib.Core.Path.{◌≡◌, refl, sym, ap, ◌∙◌, subst}
 use mathlib.Core.Logic.{◌≢◌}
@@ -8,7 +9,7 @@ use native.Mathlib.Omega.{arith}
 use lib.ListN.{length, take, drop, set, length-append, length-map, length-drop}
 use lib.Seq.{sets, length-sets, take_all, drop-length, drop-drop}
 use borrow.Rule.Slice.PartMut.{put_mid}
-use Rattle.rules.specs.Notation.{if◌then◌else◌, along, flat, keep}
+use Rattle.rules.specs.Notation.{along, flat, keep}
 use Rattle.rules.specs.Tables.{generation_of, State}
 use Rattle.rules.specs.Compress.{is_lowest, lowest_slots}
 use Rattle.rules.specs.Bytes.{little}

@@ -1,4 +1,5 @@
 -- The runs of a ready state, stored one after another: bodies, contents, and the file.
+use Rattle.std.specs.Prelude.{if◌then◌else◌}
 use Prim.Native.Nat.{ℕ, zero, suc, ◌+◌, ◌*◌, ◌-◌, ◌≤◌, ◌<◌}
 use mathlib.Core.Path.{◌≡◌, refl, sym, ap, ◌∙◌, subst}
 use mathlib.Core.Bool.{Bool, true, false}
@@ -7,7 +8,7 @@ use native.Mathlib.Omega.{arith}
 use lib.ListN.{length, take, drop, set, length-append, length-map, length-drop}
 use lib.Seq.{sets, length-sets, take_all, drop-length, drop-drop}
 use borrow.Rule.Slice.PartMut.{put_mid}
-use Rattle.rules.specs.Notation.{if◌then◌else◌, along, sum, flat, keep}
+use Rattle.rules.specs.Notation.{along, sum, flat, keep}
 use Rattle.rules.specs.Tables.{most_slots, frame_width, header_width, payload_of, class_of, next_of, bytes_of, count_of, value_of, total_of, State, size_at}
 use Rattle.rules.specs.Drains.{ring}
 use Rattle.rules.specs.Compress.{is_lowest, lowest_slots}

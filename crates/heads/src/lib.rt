@@ -1,8 +1,7 @@
 // The lent head: thirteen numbers (docs/LAYOUT.md).
 #![tactic(auto)]
 
-ghost use Rattle.std.specs.Prelude.{◌≡◌};
-ghost use Rattle.rules.specs.Notation.{if◌then◌else◌, ◌==◌};
+ghost use Rattle.std.specs.Prelude.{◌≡◌, if◌then◌else◌, ◌==◌};
 ghost use Rattle.numbers.specs.Numbers.{head_of};
 
 use rules::{Head, Memory, Pool};

@@ -1,4 +1,5 @@
 -- What the proofs of the entries share: an entry that unpacks the head, calls the door, tells the answer and stores the next head if accepted keeps its promise.
+use Rattle.std.specs.Prelude.{if◌then◌else◌, ◌==◌}
 use Prim.Native.Nat.{ℕ}
 use mathlib.Core.Path.{◌≡◌, refl, sym, ap, ◌∙◌, subst}
 use mathlib.Core.Logic.{◌≢◌}
@@ -13,7 +14,6 @@ use types.Logic.{Logic}
 use types.Kit.{Item, Post, any_q, post, runs, Seq, ◌$◌}
 use types.Run.{Opd as Reads, first, branches, skips}
 use Rattle.rules.specs.declared.Head.{Head}
-use Rattle.rules.specs.Notation.{if◌then◌else◌, ◌==◌}
 use Rattle.rules.specs.Tables.{State, state_of}
 use Rattle.rules.specs.Refusals.{Said, Outcome}
 use Rattle.rules.specs.Answers.{leaves}

@@ -8,7 +8,7 @@ use numbers::answers;
 use rules::{Head, Key};
 
 // The next head, and the entry's result.
-#[derive(Drop)]
+#[derive(Clone, Copy)]
 pub struct HeadSaid {
     pub head: Head,
     pub number: u64,

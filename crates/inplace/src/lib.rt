@@ -11,7 +11,7 @@ ghost use Rattle.rules.specs.Answers.{leaves, said_inserted, said_removed};
 use rules::{Head, Inserted, Key, Removed};
 
 // Removal's answer, and beside it the overflow mark.
-#[derive(Drop)]
+#[derive(Clone, Copy)]
 pub struct TakenOut {
     pub answer: Removed,
     pub over: bool,

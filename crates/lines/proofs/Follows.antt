@@ -1,4 +1,5 @@
 -- The whole input: what was read and printed so far is what Script says of it, block after block, to the end.
+use Rattle.std.specs.Prelude.{if◌then◌else◌, ◌==◌}
 use Prim.Native.Nat.{ℕ, zero, suc, ◌+◌, ◌≤◌, ◌<◌}
 use mathlib.Core.Path.{◌≡◌, refl, sym, ap, ◌∙◌}
 use mathlib.Core.Bool.{Bool, true, false}
@@ -7,7 +8,6 @@ use native.Mathlib.Decide.{dec_lt}
 use native.Mathlib.Omega.{arith}
 use lib.ListN.{length, take, drop, length-append}
 use lib.Seq.{sets-eq, take_all, take_at, take-nil, drop-length, length-take-le, append_snoc}
-use Rattle.rules.specs.Notation.{if◌then◌else◌, ◌==◌}
 use Rattle.rules.specs.Tables.{State}
 use Rattle.rules.specs.Script.{line_most, newline, prepend, pieces, Reply, line_reply, without_empty_last, replies, output}
 use Rattle.words.specs.Words.{onto}

@@ -1,4 +1,5 @@
 -- Script: a call made at the inner door, and its answer printed, is a line obeyed.
+use Rattle.std.specs.Prelude.{if◌then◌else◌}
 use Prim.Native.Nat.{ℕ, zero, suc, ◌+◌, ◌*◌, ◌≤◌, ◌<◌}
 use mathlib.Core.Path.{◌≡◌, refl, sym, ap, ◌∙◌}
 use mathlib.Core.Bool.{Bool, true, false}
@@ -11,7 +12,7 @@ use Rattle.rules.specs.declared.Key.{Key}
 use Rattle.rules.specs.declared.Found.{Found}
 use Rattle.rules.specs.declared.Found.TheVariants as lookup
 use Rattle.rules.specs.declared.Refusal.TheVariants.{Short}
-use Rattle.rules.specs.Notation.{if◌then◌else◌, ◌<?◌, along, flat}
+use Rattle.rules.specs.Notation.{◌<?◌, along, flat}
 use Rattle.rules.specs.Tables.{next_of, State, state_of, found, key_at, size_at}
 use Rattle.rules.specs.Refusals.{Ruling, refuse, accept, Said, Outcome, outcome, when_live}
 use Rattle.rules.specs.Runs.{key_values}

@@ -1,6 +1,5 @@
 -- The whole input as it comes, block by block: what has been read and printed so far, in Script's terms.
-use Rattle.std.specs.Prelude.{ℕ, ◌+◌, ◌≤◌, ◌<◌, ◌≡◌, Bool, true, false, List, [], ◌∷◌, ◌++◌, length, take, drop}
-use Rattle.rules.specs.Notation.{if◌then◌else◌}
+use Rattle.std.specs.Prelude.{ℕ, ◌+◌, ◌≤◌, ◌<◌, ◌≡◌, Bool, true, false, List, [], ◌∷◌, ◌++◌, length, take, drop, if◌then◌else◌}
 use Rattle.rules.specs.Tables.{State}
 use Rattle.rules.specs.Slots.{empty}
 use Rattle.rules.specs.Script.{capacity, newline, pieces, line_reply, replies, output}

@@ -3,7 +3,7 @@ ghost use Rattle.std.specs.Prelude.{◌≤◌, length};
 ghost use Rattle.lines.specs.Stream.{Keeps, Gathers};
 
 // What was found: the place after it, how many bytes of the line are held, and whether the line is whole.
-#[derive(Drop)]
+#[derive(Clone, Copy)]
 pub struct Gathered {
     pub next: usize,
     pub held: usize,

@@ -1,4 +1,5 @@
 -- The call: refused 5 or 6 with nothing changed; an empty source left alone; or both sides as the rule says.
+use Rattle.std.specs.Prelude.{◌==◌}
 use mathlib.Core.Path.{◌≡◌, refl, sym, ap, ◌∙◌}
 use mathlib.Core.Logic.{◌≢◌}
 use mathlib.Core.Bool.{Bool, true, false}
@@ -10,7 +11,7 @@ use Rattle.rules.specs.declared.Head.{Head}
 use Rattle.rules.specs.declared.HeadsDone.{HeadsDone}
 use Rattle.rules.specs.declared.Done.TheVariants as done
 use Rattle.rules.specs.declared.Refusal.{Refusal}
-use Rattle.rules.specs.Notation.{◌==◌, flat}
+use Rattle.rules.specs.Notation.{flat}
 use Rattle.rules.specs.Tables.{most_slots, last_generation, frame_width, header_width, blank, State, state_of}
 use Rattle.rules.specs.Refusals.{said_accepted, shaped}
 use Rattle.rules.specs.Slots.{empty, raised, overflows}

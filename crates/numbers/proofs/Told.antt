@@ -1,4 +1,5 @@
 -- An answer that is refused, and one that is accepted, as numbers.
+use Rattle.std.specs.Prelude.{if◌then◌else◌, ◌==◌}
 use Prim.Native.Nat.{ℕ, ◌+◌, ◌*◌, ◌/◌, ◌%◌, ◌≤◌, ◌<◌}
 use native.Mathlib.Omega.{arith}
 use mathlib.Core.Path.{◌≡◌, refl, sym, ◌∙◌}
@@ -7,7 +8,6 @@ use mathlib.Core.Bool.{Bool, true, false}
 use lib.Dec.{lit≤, lit<}
 use mathlib.Core.List.{List, []}
 use lib.ListN.{get_or}
-use Rattle.rules.specs.Notation.{if◌then◌else◌, ◌==◌}
 use Rattle.rules.specs.declared.Cause.TheVariants.{NoSlot, FreeSlot, OtherGeneration}
 use Rattle.rules.specs.declared.Refusal.{Refusal}
 use Rattle.rules.specs.declared.Refusal.TheVariants.{Shape, Unsound, Dead, SameClass, NoElement, NoShared, Short, Malformed, NoFile, Nothing, Version, Sealed, OutOfRange}

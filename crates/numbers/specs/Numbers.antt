@@ -1,7 +1,6 @@
 -- How a lent head and an answer stand as numbers (docs/LAYOUT.md).
-use Rattle.std.specs.Prelude.{ℕ, ◌+◌, ◌*◌, ◌≡◌, Bool, List, [], ◌∷◌, ◌++◌, get_or}
+use Rattle.std.specs.Prelude.{ℕ, ◌+◌, ◌*◌, ◌≡◌, Bool, List, [], ◌∷◌, ◌++◌, get_or, if◌then◌else◌, ◌==◌}
 use Rattle.rules.specs.declared.Head.{Head}
-use Rattle.rules.specs.Notation.{if◌then◌else◌, ◌==◌}
 use Rattle.rules.specs.Refusals.{Said}
 
 -- the thirteen numbers of a lent head

@@ -1,7 +1,7 @@
 // What an answer is at the host: the number as the result, with the cause of 3 above it, and its values in `out`, which a refusal leaves as it was.
 ghost use Rattle.std.specs.Prelude.{◌≡◌, Bool, [], get_or};
 ghost use Rattle.rules.specs.Refusals.{number_of, cause_number, values_of, said_refused};
-ghost use Rattle.rules.specs.Answers.{said_done, said_number, said_same, said_inserted, said_joined, said_seal, said_removed, saidOld};
+ghost use Rattle.rules.specs.Answers.{said_done, said_number, said_same, said_inserted, said_joined, said_seal, said_removed, said_old};
 ghost use Rattle.numbers.specs.Numbers.{Answered, flag, result_of, values, values_over, removal_numbers};
 
 use rules::{Cause, Done, Inserted, Joined, Number, Refusal, Removed, Rest, Same, Seal};
@@ -195,7 +195,7 @@ pub fn removed(answer: Removed, over: bool, out: &mut [u64; 4]) -> u64
 
 // Four old values, in key order.
 pub fn four(answer: Done, old: [u64; 4], out: &mut [u64; 4]) -> u64
-    ensures { Answered values (saidOld answer old) out.old result out.new }
+    ensures { Answered values (said_old answer old) out.old result out.new }
 {
     match answer {
         Done::Done => {

@@ -1,4 +1,5 @@
 -- The call: refused 7 with nothing changed, or accepted with what the passes leave.
+use Rattle.std.specs.Prelude.{if◌then◌else◌, ◌==◌}
 use mathlib.Core.Path.{◌≡◌, refl, sym, ap, ◌∙◌}
 use mathlib.Core.Bool.{Bool, ◌&&◌, not}
 use mathlib.Core.List.{List, [], ◌∷◌, ◌++◌, map}
@@ -7,7 +8,7 @@ use native.Mathlib.Omega.{arith}
 use lib.ListN.{length, drop}
 use Rattle.rules.specs.declared.Head.{Head}
 use Rattle.rules.specs.declared.Refusal.TheVariants.{Short}
-use Rattle.rules.specs.Notation.{if◌then◌else◌, ◌==◌, ◌<?◌, flat}
+use Rattle.rules.specs.Notation.{◌<?◌, flat}
 use Rattle.rules.specs.Tables.{blank, last_generation, State, state_of, elem_side, shared_side}
 use Rattle.rules.specs.Refusals.{said_refused, said_accepted}
 use Rattle.rules.specs.Answers.{leaves}

@@ -1,4 +1,5 @@
 -- Demand 3 for what a host calls: every sequence of C entries is one of calls at the door, with the same history.
+use Rattle.std.specs.Prelude.{if◌then◌else◌, ◌==◌}
 use Prim.Native.Nat.{ℕ}
 use mathlib.Core.Path.{◌≡◌, refl, sym, ap, ◌∙◌, subst}
 use mathlib.Core.Logic.{◌≢◌}
@@ -7,7 +8,6 @@ use lib.Dec.{lit<}
 use mathlib.Core.List.{List, []}
 use lib.ListN.{get_or}
 use Rattle.rules.specs.declared.Key.{Key}
-use Rattle.rules.specs.Notation.{if◌then◌else◌, ◌==◌}
 use Rattle.rules.specs.Tables.{State, is_sealed}
 use Rattle.rules.specs.Sound.{both_fit}
 use Rattle.rules.specs.Refusals.{Ruling, Said, Outcome, outcome, shaped}

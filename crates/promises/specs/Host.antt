@@ -1,7 +1,6 @@
 -- What a C entry promises: its result, the lent head, tables and buffers after it, by the outcome at the door.
-use Rattle.std.specs.Prelude.{ℕ, ◌≡◌, Bool, not, List, [], ◌∷◌, get_or}
+use Rattle.std.specs.Prelude.{ℕ, ◌≡◌, Bool, not, List, [], ◌∷◌, get_or, if◌then◌else◌, ◌==◌}
 use Rattle.rules.specs.declared.Key.{Key}
-use Rattle.rules.specs.Notation.{if◌then◌else◌, ◌==◌}
 use Rattle.rules.specs.Tables.{State, state_of}
 use Rattle.rules.specs.Refusals.{Said, Outcome}
 use Rattle.rules.specs.Calls.{Call, AtDoor, fresh_step}

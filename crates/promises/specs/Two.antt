@@ -1,6 +1,5 @@
 -- What a C entry on two recorders' tables promises, target first, by the outcome at the door (Tickets 10 and 12).
-use Rattle.std.specs.Prelude.{ℕ, ◌≡◌, List, []}
-use Rattle.rules.specs.Notation.{if◌then◌else◌, ◌==◌}
+use Rattle.std.specs.Prelude.{ℕ, ◌≡◌, List, [], if◌then◌else◌, ◌==◌}
 use Rattle.rules.specs.Tables.{State, state_of}
 use Rattle.rules.specs.Refusals.{Said}
 use Rattle.rules.specs.TwoTables.{TwoOutcome}

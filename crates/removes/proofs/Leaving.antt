@@ -1,4 +1,5 @@
 -- Removal: what its steps leave is the rule's state, and each of its ways.
+use Rattle.std.specs.Prelude.{if◌then◌else◌, ◌==◌}
 use Prim.Native.Nat.{ℕ, ◌-◌, ◌≤◌}
 use mathlib.Core.Path.{◌≡◌, refl, sym, ap, ◌∙◌}
 use mathlib.Core.Logic.{◌≢◌}
@@ -9,7 +10,6 @@ use borrow.Author.Tests.{eq-eqb, ne_eqb}
 use Rattle.rules.specs.declared.Head.{Head}
 use Rattle.rules.specs.declared.Rest.{Rest}
 use Rattle.rules.specs.declared.Rest.TheVariants.{GoesOn, Last}
-use Rattle.rules.specs.Notation.{if◌then◌else◌, ◌==◌}
 use Rattle.rules.specs.Tables.{class_of, previous_of, next_of, bytes_of, count_of, value_of, total_of, State, state_of, with_shared, with_generation}
 use Rattle.rules.specs.Slots.{free_element, free_shared, raised, raise}
 use Rattle.rules.specs.Runs.{counted, linked, unlinked, left, removed}

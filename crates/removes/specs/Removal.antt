@@ -1,8 +1,7 @@
 -- A class that a frame can leave, and what is left when it has.
-use Rattle.std.specs.Prelude.{ℕ, ◌≤◌, ◌≡◌, List}
+use Rattle.std.specs.Prelude.{ℕ, ◌≤◌, ◌≡◌, List, if◌then◌else◌, ◌==◌}
 use Rattle.rules.specs.declared.Head.{Head}
 use Rattle.rules.specs.declared.Rest.TheVariants.{GoesOn, Last}
-use Rattle.rules.specs.Notation.{if◌then◌else◌, ◌==◌}
 use Rattle.rules.specs.Tables.{header_width, payload_of, count_of, value_of, total_of, State, state_of}
 use Rattle.rules.specs.Slots.{overflows}
 use Rattle.rules.specs.Runs.{left, removed, rest_of}

@@ -15,14 +15,14 @@ use rules::{
 };
 
 // What a class is left as: the head, and what is said of the run.
-#[derive(Drop)]
+#[derive(Clone, Copy)]
 pub struct Left {
     pub head: Head,
     pub rest: Rest,
 }
 
 // A frame taken out, and what is said of its run and of the generation.
-#[derive(Drop)]
+#[derive(Clone, Copy)]
 pub struct Removal {
     pub head: Head,
     pub payload: u64,

@@ -5,7 +5,7 @@ use rules::{Done, Head, HeadNumber, Key};
 use sample::{REFUSED, is_answer, is_done, is_number, is_same, number};
 
 // The head after a call, and whether the answer was the same.
-#[derive(Drop)]
+#[derive(Clone, Copy)]
 pub struct Next {
     pub head: Head,
     pub same: bool,

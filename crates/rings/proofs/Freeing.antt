@@ -1,4 +1,5 @@
 -- Remove shared: the invariant of the loop that frees a ring, and the call's ways.
+use Rattle.std.specs.Prelude.{◌==◌}
 use Prim.Native.Nat.{ℕ, zero, suc, ◌+◌, ◌*◌, ◌-◌, ◌≤◌, ◌<◌}
 use mathlib.Core.Path.{◌≡◌, refl, sym, ap, ◌∙◌}
 use mathlib.Core.Logic.{◌≢◌}
@@ -13,7 +14,6 @@ use Rattle.rules.specs.declared.Number.TheVariants.{Is}
 use Rattle.rules.specs.declared.Found.TheVariants as lookup
 use Rattle.rules.specs.declared.Cause.{Cause}
 use Rattle.rules.specs.declared.Refusal.TheVariants.{Dead}
-use Rattle.rules.specs.Notation.{◌==◌}
 use Rattle.rules.specs.Tables.{last_generation, frame_width, class_of, next_of, count_of, value_of, State, state_of, with_generation, found, size_at}
 use Rattle.rules.specs.Refusals.{outcome, refuse}
 use Rattle.rules.specs.Slots.{freed, free_element, free_shared, raised, raise, overflows}

@@ -1,4 +1,5 @@
 -- A call that writes a place for each frame of a run, by its three ways.
+use Rattle.std.specs.Prelude.{if◌then◌else◌}
 use Prim.Native.Nat.{ℕ, suc, ◌*◌, ◌≤◌, ◌<◌}
 use mathlib.Core.Path.{◌≡◌}
 use mathlib.Core.Bool.{false}
@@ -11,7 +12,6 @@ use Rattle.rules.specs.declared.Key.{Key}
 use Rattle.rules.specs.declared.Found.TheVariants as lookup
 use Rattle.rules.specs.declared.Cause.{Cause}
 use Rattle.rules.specs.declared.Refusal.TheVariants.{Dead, Short}
-use Rattle.rules.specs.Notation.{if◌then◌else◌}
 use Rattle.rules.specs.Tables.{State, found, size_at}
 use Rattle.rules.specs.Refusals.{Ruling, outcome, said_accepted, refuse, accept, with_live}
 use Rattle.rules.specs.Drains.{is_short}

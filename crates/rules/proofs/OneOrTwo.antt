@@ -1,4 +1,5 @@
 -- Refusals, below the table: fresh can only give 1, the check only 1 or 2.
+use Rattle.std.specs.Prelude.{if◌then◌else◌}
 use Prim.Native.Nat.{ℕ, ◌≤◌}
 use native.Mathlib.Omega.{arith}
 use mathlib.Core.Path.{◌≡◌, refl}
@@ -6,7 +7,6 @@ use mathlib.Core.Logic.{◌↔◌}
 use mathlib.Core.Bool.{Bool, true, false}
 use mathlib.Core.List.{List, []}
 use Rattle.rules.specs.declared.Refusal.TheVariants.{Shape, Unsound}
-use Rattle.rules.specs.Notation.{if◌then◌else◌}
 use Rattle.rules.specs.Tables.{State}
 use Rattle.rules.specs.Sound.{both_fit}
 use Rattle.rules.specs.Refusals.{Outcome, refuse, answer, outcome, shaped, door}

@@ -1,4 +1,5 @@
 -- Ticket 8 at worked sequences from fresh tables, capacities 4 and 3: a reset does bring an old key back, and so does whatever another of the provisos keeps out.
+use Rattle.std.specs.Prelude.{◌==◌}
 use Prim.Native.Nat.{ℕ, zero, suc, ◌+◌, ◌≤◌}
 use mathlib.Core.Path.{◌≡◌, refl, sym, ap, ◌∙◌, subst}
 use mathlib.Core.Bool.{Bool, true, false, true≢false}
@@ -9,7 +10,6 @@ use Rattle.rules.specs.declared.Key.{Key}
 use Rattle.rules.specs.declared.Cause.TheVariants.{FreeSlot, OtherGeneration, NoSlot}
 use Rattle.rules.specs.declared.Found.{Found}
 use Rattle.rules.specs.declared.Found.TheVariants.{Live, Dead}
-use Rattle.rules.specs.Notation.{◌==◌}
 use Rattle.rules.specs.Tables.{last_generation, State, found, LiveKey}
 use Rattle.rules.specs.Refusals.{Outcome}
 use Rattle.rules.specs.Slots.{empty, raised}

@@ -1,4 +1,5 @@
 -- The worked study's runs are read back from its file, as is claimed of every sound state; and the numbers that rest on a file's holding one list of runs.
+use Rattle.std.specs.Prelude.{if◌then◌else◌}
 use Prim.Native.Nat.{ℕ, zero, suc, ◌≤◌, ◌<◌}
 use native.Mathlib.Omega.{arith}
 use mathlib.Core.Path.{◌≡◌, refl, ap}
@@ -7,7 +8,7 @@ use mathlib.Core.Bool.{Bool, true, false, true≢false, false≢true}
 use mathlib.Core.List.{List, [], ◌∷◌}
 use lib.Dec.{lit<, lit≤}
 use lib.ListN.{length, get_or}
-use Rattle.rules.specs.Notation.{if◌then◌else◌, ◌<?◌, every}
+use Rattle.rules.specs.Notation.{◌<?◌, every}
 use Rattle.rules.specs.Tables.{State}
 use Rattle.rules.specs.Refusals.{outcome}
 use Rattle.rules.specs.Calls.{Is}

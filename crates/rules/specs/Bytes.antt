@@ -1,6 +1,6 @@
 -- Ticket 11: numbers as bytes, and reading from the front of a list of bytes: what was read, and the bytes that are left.
-use Rattle.std.specs.Prelude.{ℕ, zero, suc, ◌+◌, ◌*◌, ◌/◌, ◌%◌, ◌<◌, List, [], ◌∷◌, length, drop}
-use Rattle.rules.specs.Notation.{if◌then◌else◌, ◌≤?◌}
+use Rattle.std.specs.Prelude.{ℕ, zero, suc, ◌+◌, ◌*◌, ◌/◌, ◌%◌, ◌<◌, List, [], ◌∷◌, length, drop, if◌then◌else◌}
+use Rattle.rules.specs.Notation.{◌≤?◌}
 
 infixr 3 ◌>>=◌
 pub data Got (A : Type 0) : Type 0 where

@@ -1,8 +1,8 @@
 -- Ticket 9: a ceiling on union work, over sequences of new runs, inserts and unions from fresh tables; and the call that answers it.
-use Rattle.std.specs.Prelude.{ℕ, zero, suc, ◌+◌, ◌*◌, ◌^◌, ◌≤◌, ◌<◌, ◌≡◌, ◌≢◌, false, ◌&&◌, List, [], ◌∷◌, get_or}
+use Rattle.std.specs.Prelude.{ℕ, zero, suc, ◌+◌, ◌*◌, ◌^◌, ◌≤◌, ◌<◌, ◌≡◌, ◌≢◌, false, ◌&&◌, List, [], ◌∷◌, get_or, if◌then◌else◌}
 use Rattle.rules.specs.declared.Key.{Key}
 use Rattle.rules.specs.declared.Refusal.TheVariants.{OutOfRange}
-use Rattle.rules.specs.Notation.{if◌then◌else◌, ◌≤?◌}
+use Rattle.rules.specs.Notation.{◌≤?◌}
 use Rattle.rules.specs.Tables.{most_slots, State}
 use Rattle.rules.specs.Refusals.{Said, Outcome, said_refused, said_accepted}
 use Rattle.rules.specs.Calls.{Call, new_run, insert, union, fresh_step, AtDoor}

@@ -1,8 +1,8 @@
 -- Ticket 10: a study is copied to other tables, every live slot to its own.
-use Rattle.std.specs.Prelude.{ℕ, zero, suc, ◌*◌, ◌-◌, Bool, false, not, List, map, replicate, set}
+use Rattle.std.specs.Prelude.{ℕ, zero, suc, ◌*◌, ◌-◌, Bool, false, not, List, map, replicate, set, if◌then◌else◌}
 use Rattle.rules.specs.declared.Pool.{Pool}
 use Rattle.rules.specs.declared.Refusal.TheVariants.{NoElement, NoShared}
-use Rattle.rules.specs.Notation.{if◌then◌else◌, ◌<?◌, along, up_to, flat}
+use Rattle.rules.specs.Notation.{◌<?◌, along, up_to, flat}
 use Rattle.rules.specs.Tables.{blank, State, Side, elem_side, shared_side, field_of, is_live}
 use Rattle.rules.specs.Compress.{padded}
 use Rattle.rules.specs.Undo.{Whole}

@@ -1,8 +1,8 @@
 -- Ticket 10: what is claimed of a copy, apart from its rule: when it is refused, what it keeps, and that reads of it answer alike.
-use Rattle.std.specs.Prelude.{ℕ, suc, ◌<◌, ◌≡◌, ◌≢◌, ◌⊎◌, Bool, false, List, T}
+use Rattle.std.specs.Prelude.{ℕ, suc, ◌<◌, ◌≡◌, ◌≢◌, ◌⊎◌, Bool, false, List, T, if◌then◌else◌}
 use Rattle.rules.specs.declared.Key.{Key}
 use Rattle.rules.specs.declared.Cause.TheVariants.{NoSlot}
-use Rattle.rules.specs.Notation.{if◌then◌else◌, ◌<?◌}
+use Rattle.rules.specs.Notation.{◌<?◌}
 use Rattle.rules.specs.Tables.{blank, State, is_live, cause, LiveKey}
 use Rattle.rules.specs.Sound.{Frame, Header, Each, chain_at}
 use Rattle.rules.specs.Refusals.{Outcome, shaped}

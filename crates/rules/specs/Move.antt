@@ -1,7 +1,7 @@
 -- Ticket 12: a study goes to other tables in canonical order, and its own are cleared.
-use Rattle.std.specs.Prelude.{ℕ, Bool, false, ◌||◌}
+use Rattle.std.specs.Prelude.{ℕ, Bool, false, ◌||◌, if◌then◌else◌, ◌==◌}
 use Rattle.rules.specs.declared.Refusal.TheVariants.{NoElement, NoShared, OutOfRange}
-use Rattle.rules.specs.Notation.{if◌then◌else◌, ◌==◌, ◌<?◌}
+use Rattle.rules.specs.Notation.{◌<?◌}
 use Rattle.rules.specs.Tables.{last_generation, State}
 use Rattle.rules.specs.Slots.{overflows}
 use Rattle.rules.specs.Drains.{cleared}

@@ -1,7 +1,7 @@
 -- Ticket 11: the reader, over the versions that it knows. It takes any tables that fit, as fresh does.
-use Rattle.std.specs.Prelude.{ℕ, zero, suc, ◌+◌, ◌*◌, Bool, true, false, List, [], ◌∷◌, ◌++◌, map, length}
+use Rattle.std.specs.Prelude.{ℕ, zero, suc, ◌+◌, ◌*◌, Bool, true, false, List, [], ◌∷◌, ◌++◌, map, length, if◌then◌else◌, ◌==◌}
 use Rattle.rules.specs.declared.Refusal.TheVariants.{Shape, NoElement, NoShared, NoFile, Version}
-use Rattle.rules.specs.Notation.{if◌then◌else◌, ◌==◌, ◌<?◌, flat}
+use Rattle.rules.specs.Notation.{◌<?◌, flat}
 use Rattle.rules.specs.Tables.{frame_width, header_width, blank, State}
 use Rattle.rules.specs.Refusals.{Ruling, refuse, answer, Outcome, outcome, shaped}
 use Rattle.rules.specs.Runs.{frame, header}

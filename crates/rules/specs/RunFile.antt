@@ -1,6 +1,6 @@
 -- Ticket 11: the run file, over its versions: runs as data, the bytes of a file from its runs, and the runs that a file holds.
-use Rattle.std.specs.Prelude.{ℕ, zero, suc, ◌+◌, ◌*◌, ◌≤◌, ◌<◌, Bool, ◌&&◌, List, [], ◌∷◌, ◌++◌, map, length, drop}
-use Rattle.rules.specs.Notation.{if◌then◌else◌, ◌==◌, ◌≤?◌, sum, flat, All}
+use Rattle.std.specs.Prelude.{ℕ, zero, suc, ◌+◌, ◌*◌, ◌≤◌, ◌<◌, Bool, ◌&&◌, List, [], ◌∷◌, ◌++◌, map, length, drop, if◌then◌else◌, ◌==◌}
+use Rattle.rules.specs.Notation.{◌≤?◌, sum, flat, All}
 use Rattle.rules.specs.Bytes.{Got, unread, got, Reader, ◌>>=◌, return, reject, times, little, limit, number}
 
 -- a frame and a run as a file has them, the frames in ring order

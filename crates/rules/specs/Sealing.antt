@@ -1,7 +1,6 @@
 -- Ticket 1: what the finalizer has from the seal stays true. From the seal on, over any further calls, no frame comes into that run.
-use Rattle.std.specs.Prelude.{ℕ, zero, suc, ◌≤◌, ◌≡◌, ◌≢◌, List, [], ◌∷◌, map, length, get_or, drop}
+use Rattle.std.specs.Prelude.{ℕ, zero, suc, ◌≤◌, ◌≡◌, ◌≢◌, List, [], ◌∷◌, map, length, get_or, drop, if◌then◌else◌, ◌==◌}
 use Rattle.rules.specs.declared.Key.{Key}
-use Rattle.rules.specs.Notation.{if◌then◌else◌, ◌==◌}
 use Rattle.rules.specs.Tables.{State, LiveKey, mark_of}
 use Rattle.rules.specs.Refusals.{Outcome}
 use Rattle.rules.specs.Seals.{seal_width}

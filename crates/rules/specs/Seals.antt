@@ -1,8 +1,8 @@
 -- Ticket 1 of document 02: seal a run in one call.
-use Rattle.std.specs.Prelude.{ℕ, false, List, [], ◌∷◌, ◌++◌, map}
+use Rattle.std.specs.Prelude.{ℕ, false, List, [], ◌∷◌, ◌++◌, map, if◌then◌else◌}
 use Rattle.rules.specs.declared.Key.{Key}
 use Rattle.rules.specs.declared.Refusal.TheVariants.{Short, Sealed}
-use Rattle.rules.specs.Notation.{if◌then◌else◌, flat}
+use Rattle.rules.specs.Notation.{flat}
 use Rattle.rules.specs.Tables.{header_width, header_at, put, payload_of, class_of, value_of, State, with_shared, forgetting, key_at, size_at, is_sealed}
 use Rattle.rules.specs.Refusals.{Ruling, refuse, accept, with_live}
 use Rattle.rules.specs.Runs.{key_values}

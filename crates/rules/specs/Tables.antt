@@ -1,5 +1,5 @@
 -- Tables and head: slots and their fields, the state, and when a slot or a key is live.
-use Rattle.std.specs.Prelude.{ℕ, zero, suc, ◌+◌, ◌*◌, ◌≡◌, Bool, ◌&&◌, ◌||◌, not, List, get_or, set}
+use Rattle.std.specs.Prelude.{ℕ, zero, suc, ◌+◌, ◌*◌, ◌≡◌, Bool, ◌&&◌, ◌||◌, not, List, get_or, set, if◌then◌else◌, ◌==◌}
 use Rattle.std.proofs.lemmas.List.Edits.{sets}
 use Rattle.rules.specs.declared.Pool.{Pool}
 use Rattle.rules.specs.declared.Head.{Head}
@@ -9,7 +9,7 @@ use Rattle.rules.specs.declared.Cause.{Cause}
 use Rattle.rules.specs.declared.Cause.TheVariants.{NoSlot, FreeSlot, OtherGeneration}
 use Rattle.rules.specs.declared.Found.{Found}
 use Rattle.rules.specs.declared.Found.TheVariants as lookup
-use Rattle.rules.specs.Notation.{if◌then◌else◌, ◌==◌, ◌≤?◌, ◌<?◌}
+use Rattle.rules.specs.Notation.{◌≤?◌, ◌<?◌}
 
 -- Tables: the highest capacity; Tables 3: the last generation
 abbrev pub most_slots : ℕ

@@ -1,10 +1,9 @@
 -- Tickets 10 and 12: calls on two recorders' tables, a target and a source: what such a call decides, what it says and leaves of both, and the host's door before it.
-use Rattle.std.specs.Prelude.{ℕ, ◌≡◌, ◌⊎◌, Bool, true, List, []}
+use Rattle.std.specs.Prelude.{ℕ, ◌≡◌, ◌⊎◌, Bool, true, List, [], if◌then◌else◌}
 use Rattle.rules.specs.declared.HeadDone.{HeadDone}
 use Rattle.rules.specs.declared.HeadsDone.{HeadsDone}
 use Rattle.rules.specs.declared.Refusal.{Refusal}
 use Rattle.rules.specs.declared.Refusal.TheVariants.{Shape, Unsound}
-use Rattle.rules.specs.Notation.{if◌then◌else◌}
 use Rattle.rules.specs.Tables.{State, state_of}
 use Rattle.rules.specs.Refusals.{Said, said_refused, said_accepted, shaped}
 use Rattle.rules.specs.Answers.{said_done}

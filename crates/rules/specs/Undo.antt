@@ -1,7 +1,6 @@
 -- Ticket 7: undo the last union.
-use Rattle.std.specs.Prelude.{ℕ, ◌-◌, ◌≡◌, ◌⊎◌, []}
+use Rattle.std.specs.Prelude.{ℕ, ◌-◌, ◌≡◌, ◌⊎◌, [], if◌then◌else◌, ◌==◌}
 use Rattle.rules.specs.declared.Refusal.TheVariants.{Nothing}
-use Rattle.rules.specs.Notation.{if◌then◌else◌, ◌==◌}
 use Rattle.rules.specs.Tables.{header_width, row, class_of, count_of, total_of, State, with_pools, blank, shared_side, key_at}
 use Rattle.rules.specs.Sound.{bytes_along, Sound}
 use Rattle.rules.specs.Refusals.{Ruling, refuse, answer, outcome}

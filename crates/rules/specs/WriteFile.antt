@@ -1,7 +1,7 @@
 -- Ticket 11: the writer. All runs go into the lent bytes, in canonical order, each from its lowest slot.
-use Rattle.std.specs.Prelude.{ℕ, false, List, [], ◌∷◌, map, length}
+use Rattle.std.specs.Prelude.{ℕ, false, List, [], ◌∷◌, map, length, if◌then◌else◌}
 use Rattle.rules.specs.declared.Refusal.TheVariants.{Short}
-use Rattle.rules.specs.Notation.{if◌then◌else◌, ◌<?◌}
+use Rattle.rules.specs.Notation.{◌<?◌}
 use Rattle.rules.specs.Tables.{payload_of, class_of, bytes_of, value_of, State}
 use Rattle.rules.specs.Refusals.{Ruling, refuse, accept}
 use Rattle.rules.specs.Drains.{ring}

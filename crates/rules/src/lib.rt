@@ -1,8 +1,7 @@
 // The types of document 01: head, key, refusals and answers. The rules are in specs/.
 #![tactic(auto)]
 
-ghost use Rattle.std.specs.Prelude.{◌≡◌, ◌+◌, ◌≤◌};
-ghost use Rattle.rules.specs.Notation.{◌==◌};
+ghost use Rattle.std.specs.Prelude.{◌≡◌, ◌+◌, ◌≤◌, ◌==◌};
 ghost use Rattle.rules.specs.Tables.{most_slots, last_generation, with_pools, with_generation, blank, remembering};
 ghost use Rattle.rules.specs.Slots.{slot_of, is_full, freed, raised};
 
@@ -43,7 +42,7 @@ pub const LAST_GENERATION: u64 = 4294967295;
 
 // Tables and head: what the head holds of one table.
 #[repr(C)]
-#[derive(Drop)]
+#[derive(Clone, Copy)]
 pub struct Pool {
     pub capacity: u64,
     pub extent: u64,
@@ -112,7 +111,7 @@ impl Pool {
 // Ticket 7: what the head keeps of the last union, zeros when there is nothing: the slots of the keys whose class was kept and went,
 // the class entries rewritten, and the value of the header that went.
 #[repr(C)]
-#[derive(Drop)]
+#[derive(Clone, Copy)]
 pub struct Memory {
     pub kept: u64,
     pub gone: u64,
@@ -130,7 +129,7 @@ pub const BLANK: Memory = Memory {
 
 // Tables and head: the head of both tables.
 #[repr(C)]
-#[derive(Drop)]
+#[derive(Clone, Copy)]
 pub struct Head {
     pub elems: Pool,
     pub shared: Pool,
@@ -139,7 +138,7 @@ pub struct Head {
 }
 
 // The head with its generation raised, and whether that says overflow.
-#[derive(Drop)]
+#[derive(Clone, Copy)]
 pub struct Raised {
     pub head: Head,
     pub over: bool,
@@ -251,14 +250,14 @@ impl Head {
 }
 
 // Tables and head: a key.
-#[derive(Drop)]
+#[derive(Clone, Copy)]
 pub struct Key {
     pub slot: u64,
     pub generation: u64,
 }
 
 // Ticket 5: why a key is dead, 1 to 3 in this order.
-#[derive(Drop)]
+#[derive(Clone, Copy)]
 pub enum Cause {
     NoSlot,
     FreeSlot,
@@ -266,7 +265,7 @@ pub enum Cause {
 }
 
 // Numbers given on refusal, 1 to 13 in this order; 3 carries its cause.
-#[derive(Drop)]
+#[derive(Clone, Copy)]
 pub enum Refusal {
     Shape,
     Unsound,
@@ -284,28 +283,28 @@ pub enum Refusal {
 }
 
 // What looking up a key finds: its slot, or why it is dead.
-#[derive(Drop)]
+#[derive(Clone, Copy)]
 pub enum Found {
     Live(u64),
     Dead(Cause),
 }
 
 // The answer of fresh, the check, lookup, clear, undo and compression.
-#[derive(Drop)]
+#[derive(Clone, Copy)]
 pub enum Done {
     Done,
     Refused(Refusal),
 }
 
 // The answer of a call that reads or sets a number, and of one that writes places: how many.
-#[derive(Drop)]
+#[derive(Clone, Copy)]
 pub enum Number {
     Is(u64),
     Refused(Refusal),
 }
 
 // The answer of `in_same_surject`.
-#[derive(Drop)]
+#[derive(Clone, Copy)]
 pub enum Same {
     Yes,
     No,
@@ -313,49 +312,49 @@ pub enum Same {
 }
 
 // The answer of new run and insert.
-#[derive(Drop)]
+#[derive(Clone, Copy)]
 pub enum Inserted {
     At(Key),
     Refused(Refusal),
 }
 
 // The answer of union: the removed shared value, the kept class's key, the class entries rewritten.
-#[derive(Drop)]
+#[derive(Clone, Copy)]
 pub enum Joined {
     Into { was: u64, kept: Key, moved: u64 },
     Refused(Refusal),
 }
 
 // The answer of seal: the header's value and count.
-#[derive(Drop)]
+#[derive(Clone, Copy)]
 pub enum Seal {
     Is { value: u64, count: u64 },
     Refused(Refusal),
 }
 
 // What removal says of the run: it goes on, or that was its last frame, with the shared value.
-#[derive(Drop)]
+#[derive(Clone, Copy)]
 pub enum Rest {
     GoesOn,
     Last(u64),
 }
 
 // The answer of removal.
-#[derive(Drop)]
+#[derive(Clone, Copy)]
 pub enum Removed {
     Out { payload: u64, rest: Rest },
     Refused(Refusal),
 }
 
 // The answer of the four-key exchange: the old values in key order, zeros when refused.
-#[derive(Drop)]
+#[derive(Clone, Copy)]
 pub struct Exchanged {
     pub answer: Done,
     pub old: [u64; 4],
 }
 
 // What a head-changing step hands back: the next head, its answer, and beside it the overflow mark where the call can say overflow.
-#[derive(Drop)]
+#[derive(Clone, Copy)]
 pub struct HeadDone {
     pub head: Head,
     pub answer: Done,
@@ -363,7 +362,7 @@ pub struct HeadDone {
 }
 
 // Ticket 12: the same of a step that changes both heads.
-#[derive(Drop)]
+#[derive(Clone, Copy)]
 pub struct HeadsDone {
     pub head: Head,
     pub source: Head,
@@ -371,38 +370,38 @@ pub struct HeadsDone {
     pub over: bool,
 }
 
-#[derive(Drop)]
+#[derive(Clone, Copy)]
 pub struct HeadNumber {
     pub head: Head,
     pub answer: Number,
     pub over: bool,
 }
 
-#[derive(Drop)]
+#[derive(Clone, Copy)]
 pub struct HeadInserted {
     pub head: Head,
     pub answer: Inserted,
 }
 
-#[derive(Drop)]
+#[derive(Clone, Copy)]
 pub struct HeadJoined {
     pub head: Head,
     pub answer: Joined,
 }
 
-#[derive(Drop)]
+#[derive(Clone, Copy)]
 pub struct HeadSeal {
     pub head: Head,
     pub answer: Seal,
 }
 
-#[derive(Drop)]
+#[derive(Clone, Copy)]
 pub struct HeadExchanged {
     pub head: Head,
     pub answer: Exchanged,
 }
 
-#[derive(Drop)]
+#[derive(Clone, Copy)]
 pub struct HeadRemoved {
     pub head: Head,
     pub answer: Removed,

@@ -7,7 +7,7 @@ ghost use Rattle.rules.specs.Tables.{row, state_of};
 ghost use Rattle.rules.specs.Seals.{seal_width};
 ghost use Rattle.rules.specs.Calls as calls;
 ghost use Rattle.rules.specs.Calls.{Ready, step};
-ghost use Rattle.rules.specs.Answers.{afterSeal};
+ghost use Rattle.rules.specs.Answers.{after_seal};
 ghost use Rattle.slots.specs.Asked.{Within, Along};
 ghost use Rattle.rings.specs.Answered.{places_along};
 ghost use Rattle.seals.specs.Answered.{frame_place};
@@ -51,7 +51,7 @@ fn write_places(elems: &[u64], n: u64, x: u64, out: &mut [u64])
 // Value and count are answered, the run is written in ring order from the given key, and its header is marked.
 pub fn seal(head: Head, elems: &[u64], shared: &mut [u64], key: Key, out: &mut [u64]) -> HeadSeal
     requires { Ready (state_of head elems.now shared.old) }
-    ensures { afterSeal result elems.now shared.new out.new ≡ step (state_of head elems.now shared.old) out.old (calls.seal key) }
+    ensures { after_seal result elems.now shared.new out.new ≡ step (state_of head elems.now shared.old) out.old (calls.seal key) }
 {
     let x = match slots::find(head, elems, key) {
         Found::Live(x) => x,

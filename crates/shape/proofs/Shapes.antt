@@ -1,4 +1,5 @@
 -- The tests of shape, one after another.
+use Rattle.std.specs.Prelude.{◌==◌}
 use mathlib.Core.Path.{◌≡◌, refl}
 use mathlib.Core.Logic.{◌≢◌}
 use mathlib.Core.Bool.{Bool, true, false, ◌&&◌}
@@ -7,7 +8,7 @@ use Prim.Native.Nat.{ℕ, ◌*◌, ◌≤◌, ◌<◌}
 use native.Mathlib.Omega.{arith}
 use lib.ListN.{length}
 use Rattle.rules.specs.declared.Head.{Head}
-use Rattle.rules.specs.Notation.{◌==◌, ◌≤?◌}
+use Rattle.rules.specs.Notation.{◌≤?◌}
 use Rattle.rules.specs.Tables.{most_slots, frame_width, header_width, state_of}
 use Rattle.rules.specs.Sound.{fits, both_fit}
 use Rattle.rules.proofs.Laws.Tests.{le_is, is_true, is_false}

@@ -18,7 +18,7 @@ use rules::{
 use turns::{free_ok, ring_ok};
 
 // What the scan finds at a slot: a free one, a frame of a class that was seen, the first frame of a class and its ring's size, or what no sound state has.
-#[derive(Drop)]
+#[derive(Clone, Copy)]
 enum Turn {
     Free,
     Seen,

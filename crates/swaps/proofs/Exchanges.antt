@@ -1,4 +1,5 @@
 -- Pass 2 on the tables: two slots exchanged field by field, and the loop that keeps the swaps' invariant.
+use Rattle.std.specs.Prelude.{if◌then◌else◌, ◌==◌}
 use mathlib.Core.Path.{◌≡◌, refl, sym, ap, ◌∙◌, fun_ext}
 use mathlib.Core.Logic.{◌≢◌, ◌⊎◌, inl, inr}
 use mathlib.Core.List.{List}
@@ -7,7 +8,6 @@ use native.Mathlib.Omega.{arith}
 use native.Mathlib.Numerals.{add-one}
 use native.Mathlib.Decide.{ℕ_discrete}
 use lib.ListN.{length}
-use Rattle.rules.specs.Notation.{if◌then◌else◌, ◌==◌}
 use Rattle.rules.specs.Tables.{frame_width, header_width, frame_at, cell, put, class_of}
 use Rattle.rules.proofs.Laws.Columns.{upd, upd_same, upd_at, upd_other, length-put, put-at, put_off}
 use Rattle.rules.proofs.Laws.Pools.{if_eq, if_ne}

@@ -1,6 +1,5 @@
 -- What the swaps ask and leave: class entries say where each run's header is, and swaps bring it to its slot.
-use Rattle.std.specs.Prelude.{◌≡◌, ◌≢◌, List, ℕ, ◌*◌, ◌≤◌, ◌<◌, length}
-use Rattle.rules.specs.Notation.{if◌then◌else◌, ◌==◌}
+use Rattle.std.specs.Prelude.{◌≡◌, ◌≢◌, List, ℕ, ◌*◌, ◌≤◌, ◌<◌, length, if◌then◌else◌, ◌==◌}
 use Rattle.rules.specs.Tables.{frame_width, header_width, frame_at, cell, put, class_of}
 use Rattle.rules.proofs.Laws.Columns.{upd}
 use Rattle.slots.specs.Asked.{Within}

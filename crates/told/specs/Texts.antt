@@ -1,7 +1,7 @@
 -- What Script prints of an answer, which goes by what is said and by the lent buffer alone.
-use Rattle.std.specs.Prelude.{ℕ, ◌*◌, ◌≤◌, ◌≡◌, Bool, List, [], ◌∷◌, map, length, get_or, drop}
+use Rattle.std.specs.Prelude.{ℕ, ◌*◌, ◌≤◌, ◌≡◌, Bool, List, [], ◌∷◌, map, length, get_or, drop, if◌then◌else◌, ◌==◌}
 use Rattle.rules.specs.declared.Rest.{Rest}
-use Rattle.rules.specs.Notation.{if◌then◌else◌, ◌==◌, flat}
+use Rattle.rules.specs.Notation.{flat}
 use Rattle.rules.specs.Refusals.{Said, Outcome}
 use Rattle.rules.specs.Slots.{empty}
 use Rattle.rules.specs.Runs.{rest_values}

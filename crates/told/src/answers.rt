@@ -148,7 +148,7 @@ pub fn put_ring(out: &mut [u8], at: usize, answer: Number, keys: &[u64]) -> usiz
 }
 
 // The head after a line, and the place after what was printed.
-#[derive(Drop)]
+#[derive(Clone, Copy)]
 pub struct Obeyed {
     pub head: Head,
     pub next: usize,

@@ -1,4 +1,5 @@
 -- The check of what the head remembers: the walk, and each of its answers.
+use Rattle.std.specs.Prelude.{◌==◌}
 use Prim.Native.Nat.{ℕ, zero, suc, ◌+◌, ◌-◌, ◌≤◌, ◌<◌}
 use mathlib.Core.Path.{◌≡◌, sym, ap, ◌∙◌}
 use mathlib.Core.Logic.{◌≢◌, inl, inr}
@@ -7,7 +8,7 @@ use mathlib.Core.List.{List}
 use native.Mathlib.Omega.{arith}
 use lib.Dec.{eqb→eq, eqb_refl}
 use Rattle.rules.specs.declared.Memory.{Memory}
-use Rattle.rules.specs.Notation.{◌==◌, steps}
+use Rattle.rules.specs.Notation.{steps}
 use Rattle.rules.specs.Tables.{generation_of, class_of, next_of, bytes_of, count_of, mark_of, State, blank, elem_side, size_at}
 use Rattle.rules.specs.Sound.{bytes_along}
 use Rattle.rules.specs.Undo.{Remembers}

@@ -1,4 +1,5 @@
 -- Union of live slots: what its steps leave is the rule's state, and each of its ways.
+use Rattle.std.specs.Prelude.{if◌then◌else◌}
 use Prim.Native.Nat.{ℕ, suc, ◌+◌, ◌≤◌, ◌<◌}
 use mathlib.Core.Path.{◌≡◌, refl, ap, ◌∙◌}
 use mathlib.Core.Logic.{◌≢◌}
@@ -11,7 +12,7 @@ use Rattle.rules.specs.declared.Head.{Head}
 use Rattle.rules.specs.declared.Key.{Key}
 use Rattle.rules.specs.declared.Joined.TheVariants.{Into}
 use Rattle.rules.specs.declared.Refusal.TheVariants.{SameClass, Sealed}
-use Rattle.rules.specs.Notation.{if◌then◌else◌, ◌<?◌}
+use Rattle.rules.specs.Notation.{◌<?◌}
 use Rattle.rules.specs.Tables.{class_of, value_of, total_of, next_of, State, state_of, size_at, is_sealed, remembering, with_undo}
 use Rattle.rules.specs.Refusals.{Outcome, outcome, refuse, answer}
 use Rattle.rules.specs.Slots.{free_shared}

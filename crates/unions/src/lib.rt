@@ -2,8 +2,7 @@
 // Ported from union of surject_arena.rs (triple_arena 0.15.1, NOTICE).
 #![tactic(auto)]
 
-ghost use Rattle.std.specs.Prelude.{◌≡◌, []};
-ghost use Rattle.rules.specs.Notation.{if◌then◌else◌};
+ghost use Rattle.std.specs.Prelude.{◌≡◌, [], if◌then◌else◌};
 ghost use Rattle.rules.specs.Tables.{state_of};
 ghost use Rattle.rules.specs.Refusals.{outcome};
 ghost use Rattle.rules.specs.Runs.{keeping};
@@ -17,7 +16,7 @@ use rules::{
 };
 
 // Which slot's class is kept, which one's goes, and the key of the class kept.
-#[derive(Drop)]
+#[derive(Clone, Copy)]
 pub struct Roles {
     pub keeps: u64,
     pub goes: u64,

@@ -1,4 +1,5 @@
 -- Script: a number's decimal, digit by digit, and which words are numbers.
+use Rattle.std.specs.Prelude.{if◌then◌else◌, ◌==◌}
 use Prim.Native.Nat.{ℕ, zero, suc, ◌+◌, ◌*◌, ◌-◌, ◌/◌, ◌%◌, ◌^◌, ◌≤◌, ◌<◌}
 use mathlib.Core.Path.{◌≡◌, refl, sym, ap, ◌∙◌}
 use mathlib.Core.Bool.{Bool, true, false, ◌&&◌}
@@ -11,7 +12,7 @@ use borrow.Author.Tests.{le-leb, lt-leb, eq-eqb, eqb-true}
 use lib.Arith.{digits_div, digits_mod}
 use lib.Dec.{lit<}
 use lib.ListN.{length, get_or, length-append, get_or-append}
-use Rattle.rules.specs.Notation.{if◌then◌else◌, ◌==◌, ◌≤?◌, ◌<?◌, every}
+use Rattle.rules.specs.Notation.{◌≤?◌, ◌<?◌, every}
 use Rattle.rules.specs.Script.{digits, decimal, same_bytes, word_value, number}
 
 -- ---- the decimal of a number

@@ -1,4 +1,5 @@
 -- Script: a line goes by its first word, which has to be one letter.
+use Rattle.std.specs.Prelude.{if◌then◌else◌, ◌==◌}
 use Prim.Native.Nat.{ℕ, suc, ◌+◌, ◌≤◌, ◌<◌}
 use mathlib.Core.Path.{◌≡◌, refl, sym, ap, ◌∙◌}
 use mathlib.Core.Bool.{Bool, true, false, ◌&&◌}
@@ -7,7 +8,7 @@ use native.Mathlib.Omega.{arith}
 use borrow.Author.Tests.{le-leb, lt-leb, ne_eqb}
 use lib.ListN.{length, get_or}
 use lib.Seq.{slice, slice-cons, slice_empty, length-slice}
-use Rattle.rules.specs.Notation.{if◌then◌else◌, ◌==◌, ◌≤?◌}
+use Rattle.rules.specs.Notation.{◌≤?◌}
 use Rattle.rules.specs.Tables.{State}
 use Rattle.rules.specs.Script.{line_most, space, pieces, same_bytes, forms, malformed, reply_to, line_reply}
 use Rattle.words.specs.Words.{words_at, WordAt}

@@ -1,4 +1,5 @@
 -- Script: a line's words from a place on, found byte by byte.
+use Rattle.std.specs.Prelude.{if◌then◌else◌, ◌==◌}
 use Prim.Native.Nat.{ℕ, zero, suc, ◌+◌, ◌≤◌, ◌<◌}
 use mathlib.Core.Path.{◌≡◌, refl, sym, ap, ◌∙◌}
 use mathlib.Core.Bool.{Bool, true, false}
@@ -9,7 +10,6 @@ use native.Mathlib.Omega.{arith}
 use borrow.Author.Tests.{le-leb, lt-leb, eq-eqb, ne_eqb}
 use lib.ListN.{length, get_or, take, drop, take-append-drop}
 use lib.Seq.{slice, slice_empty, slice-cons, drop-cons, drop-length, drop-append-le, take-suc, take-take, length-take-le, append_snoc}
-use Rattle.rules.specs.Notation.{if◌then◌else◌, ◌==◌}
 use Rattle.rules.specs.Script.{space, prepend, pieces, number, numbers, both}
 use Rattle.words.specs.declared.words.Numeral.{Numeral}
 use Rattle.words.specs.declared.words.Numeral.TheVariants.{Is}

@@ -1,7 +1,6 @@
 -- What a read line means to Script.
-use Rattle.std.specs.Prelude.{ℕ, ◌*◌, ◌≡◌, List, [], ◌∷◌, get_or, replicate}
+use Rattle.std.specs.Prelude.{ℕ, ◌*◌, ◌≡◌, List, [], ◌∷◌, get_or, replicate, if◌then◌else◌, ◌==◌}
 use Rattle.std.proofs.Math.Option.{Option, some, none}
-use Rattle.rules.specs.Notation.{if◌then◌else◌, ◌==◌}
 use Rattle.rules.specs.Tables.{State}
 use Rattle.rules.specs.Refusals.{Outcome}
 use Rattle.rules.specs.Drains.{key_width}

@@ -1,8 +1,8 @@
 -- A line's words from a place on, and what a read number is to Script.
-use Rattle.std.specs.Prelude.{ℕ, ◌+◌, ◌≤◌, ◌<◌, ◌≡◌, List, [], ◌∷◌, ◌++◌, length, drop}
+use Rattle.std.specs.Prelude.{ℕ, ◌+◌, ◌≤◌, ◌<◌, ◌≡◌, List, [], ◌∷◌, ◌++◌, length, drop, if◌then◌else◌}
 use Rattle.std.proofs.Math.Option.{Option, some, none}
 use Rattle.std.proofs.Math.Seq.{slice}
-use Rattle.rules.specs.Notation.{if◌then◌else◌, ◌≤?◌}
+use Rattle.rules.specs.Notation.{◌≤?◌}
 use Rattle.rules.specs.Script.{space, pieces, numbers, both}
 use Rattle.words.specs.declared.words.Numeral.{Numeral}
 use Rattle.words.specs.declared.words.Numeral.TheVariants.{Is, Not}

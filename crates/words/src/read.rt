@@ -19,7 +19,7 @@ const U64: u64 = 18446744073709551615;
 const NUMBERS: usize = 2;
 
 // A line: what it asks for, or that it is malformed.
-#[derive(Drop)]
+#[derive(Clone, Copy)]
 pub enum Line {
     NewRun {
         payload: u64,
@@ -41,14 +41,14 @@ pub enum Line {
 }
 
 // A key read at a place, and the place of the next word; or no key.
-#[derive(Drop)]
+#[derive(Clone, Copy)]
 pub enum TakenKey {
     Known { key: Key, next: usize },
     Nothing,
 }
 
 // A key that ends the line, or none.
-#[derive(Drop)]
+#[derive(Clone, Copy)]
 pub enum LastKey {
     Is(Key),
     Not,

@@ -6,14 +6,14 @@ ghost use Rattle.rules.specs.Script.{number, numbers, both};
 ghost use Rattle.words.specs.Words.{words_at, WordAt, option, IsDigit, taken};
 
 // What a word is as a number.
-#[derive(Drop)]
+#[derive(Clone, Copy)]
 pub enum Numeral {
     Is(u64),
     Not,
 }
 
 // What is read of a line at a place: a number, and the place of the next word; or no such number.
-#[derive(Drop)]
+#[derive(Clone, Copy)]
 pub enum Taken {
     Number { value: u64, next: usize },
     Nothing,

@@ -1,5 +1,5 @@
+use Rattle.std.specs.Prelude.{if◌then◌else◌}
 use mathlib.Core.Path.{sym}
-use Rattle.rules.specs.Notation.{if◌then◌else◌}
 use Rattle.drains.proofs.Draining.{record_puts}
 use borrow.Author.Rules.{rules}
 use Rattle.drains.proofs.write_record.Statement.{statement}

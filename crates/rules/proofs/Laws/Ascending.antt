@@ -1,11 +1,12 @@
 -- Lists that rise: one that holds the same numbers is the same list.
+use Rattle.std.specs.Prelude.{if◌then◌else◌}
 use mathlib.Core.Path.{◌≡◌, refl, sym, ap}
 use mathlib.Core.Logic.{inl, inr}
 use mathlib.Core.Bool.{Bool, true, false}
 use mathlib.Core.List.{List, [], ◌∷◌}
 use Prim.Native.Nat.{ℕ, zero, suc, ◌≤◌, ◌<◌}
 use native.Mathlib.Omega.{arith}
-use Rattle.rules.specs.Notation.{if◌then◌else◌, along, keep}
+use Rattle.rules.specs.Notation.{along, keep}
 use Rattle.rules.proofs.Laws.Lists.{All, In, all_of, all-at}
 use Rattle.rules.proofs.Laws.Sums.{along_of, keep_of}
 

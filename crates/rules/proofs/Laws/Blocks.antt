@@ -1,4 +1,5 @@
 -- The runs of the canonical order as blocks: where each begins, which class its frames have, and where their neighbours stand.
+use Rattle.std.specs.Prelude.{if◌then◌else◌, ◌==◌}
 use mathlib.Core.Path.{◌≡◌, refl, sym, ap, ◌∙◌, subst}
 use mathlib.Core.Logic.{◌≢◌}
 use mathlib.Core.List.{List, [], ◌∷◌, ◌++◌, map, map-append, append-nil, append_assoc}
@@ -9,7 +10,7 @@ use native.Mathlib.Decide.{ℕ_discrete, dec_lt}
 use lib.Dec.{T}
 use lib.ListN.{length, get_or, length-append, length-map, get_or-append}
 use lib.Seq.{get_or-append-add}
-use Rattle.rules.specs.Notation.{if◌then◌else◌, ◌==◌, steps, along, up_to, flat}
+use Rattle.rules.specs.Notation.{steps, along, up_to, flat}
 use Rattle.rules.specs.Tables.{class_of, State}
 use Rattle.rules.specs.Drains.{ring}
 use Rattle.rules.specs.Compress.{is_lowest, lowest_slots, canonical_frames, canonical_classes, place_of}

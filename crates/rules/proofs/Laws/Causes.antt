@@ -1,4 +1,5 @@
 -- Ticket 5: why a key is dead. The three causes exclude each other and cover every key that is not live, and lookup tells each exactly when its sentence holds.
+use Rattle.std.specs.Prelude.{◌==◌}
 use Prim.Native.Nat.{ℕ, suc, ◌≤◌, ◌<◌}
 use native.Mathlib.Omega.{arith}
 use borrow.Author.Tests.{eq-eqb, ne_eqb, lt-leb, le-leb}
@@ -10,7 +11,7 @@ use Rattle.rules.specs.declared.Key.{Key}
 use Rattle.rules.specs.declared.Cause.{Cause}
 use Rattle.rules.specs.declared.Cause.TheVariants.{NoSlot, FreeSlot, OtherGeneration}
 use Rattle.rules.specs.declared.Found.TheVariants as lookup
-use Rattle.rules.specs.Notation.{◌==◌, ◌<?◌}
+use Rattle.rules.specs.Notation.{◌<?◌}
 use Rattle.rules.specs.Tables.{generation_of, State, is_free, is_live, cause, found, LiveKey}
 use Rattle.rules.specs.Calls.{Is}
 use Rattle.rules.specs.Exact.{Some, None, Why, Because, FirstDead}

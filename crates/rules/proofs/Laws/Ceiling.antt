@@ -1,4 +1,5 @@
 -- Ticket 9, proved: all rewrites together are at most the figure for the frames put in.
+use Rattle.std.specs.Prelude.{if◌then◌else◌, ◌==◌}
 use mathlib.Core.Path.{◌≡◌, refl, sym, ap, ◌∙◌, subst}
 use mathlib.Core.Logic.{◌≢◌}
 use mathlib.Core.Bool.{Bool, true, false}
@@ -11,7 +12,7 @@ use lib.ListN.{length, length-append}
 use Rattle.rules.specs.declared.Key.{Key}
 use Rattle.rules.specs.declared.Refusal.{Refusal}
 use Rattle.rules.specs.declared.Refusal.TheVariants.{SameClass, NoElement, NoShared, Sealed}
-use Rattle.rules.specs.Notation.{if◌then◌else◌, ◌==◌, ◌<?◌, flat}
+use Rattle.rules.specs.Notation.{◌<?◌, flat}
 use Rattle.rules.specs.Tables.{class_of, State, size_at, is_sealed}
 use Rattle.rules.specs.Refusals.{Ruling, refuse, Said, Outcome, outcome}
 use Rattle.rules.specs.Slots.{is_full}

@@ -1,4 +1,5 @@
 -- Ticket 1: no call but compression, which renames, lets a frame into a sealed run or takes its mark.
+use Rattle.std.specs.Prelude.{if◌then◌else◌, ◌==◌}
 use mathlib.Core.Path.{◌≡◌, refl, sym, ap, ◌∙◌}
 use mathlib.Core.Logic.{◌≢◌}
 use mathlib.Core.Bool.{Bool, true, false}
@@ -9,7 +10,7 @@ use native.Mathlib.Decide.{ℕ_discrete}
 use lib.ListN.{length}
 use Rattle.rules.specs.declared.Key.{Key}
 use Rattle.rules.specs.declared.Memory.{Memory}
-use Rattle.rules.specs.Notation.{if◌then◌else◌, ◌==◌, ◌<?◌}
+use Rattle.rules.specs.Notation.{◌<?◌}
 use Rattle.rules.specs.Tables.{sized, frame_width, blank, class_of, State, with_undo, with_shared, size_at, is_sealed}
 use Rattle.rules.specs.Refusals.{Ruling, refuse, accept, outcome, with_live}
 use Rattle.rules.specs.Reads

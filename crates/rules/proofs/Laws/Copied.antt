@@ -1,4 +1,5 @@
 -- The copy of one table (Ticket 10): its columns are the source's but for the links of free slots, which chain all of them, lowest first.
+use Rattle.std.specs.Prelude.{if◌then◌else◌}
 use mathlib.Core.Path.{◌≡◌, refl, sym, ap, ◌∙◌, fun_ext}
 use mathlib.Core.Logic.{◌≢◌, ◌⊎◌, inl, inr}
 use mathlib.Core.Bool.{Bool, true, false, not}
@@ -10,7 +11,7 @@ use native.Mathlib.Decide.{ℕ_discrete, dec_lt, dec_le}
 use lib.Dec.{T}
 use lib.ListN.{length, get_or, set, replicate, length-set, length-map, length-replicate}
 use lib.Seq.{get_or-set_same, get_or-set_other}
-use Rattle.rules.specs.Notation.{if◌then◌else◌, steps, along, up_to, keep}
+use Rattle.rules.specs.Notation.{steps, along, up_to, keep}
 use Rattle.rules.specs.Tables.{Side, field_of, cell, is_live}
 use Rattle.rules.specs.Calls.{Is}
 use Rattle.rules.specs.Copy.{last_to, last_live, free_from, copied_row, copied_table, copied_pool}

@@ -1,4 +1,5 @@
 -- THE COPY is sound, and the same study: every live slot is as it was, so keys and rings are (Ticket 10).
+use Rattle.std.specs.Prelude.{if◌then◌else◌, ◌==◌}
 use mathlib.Core.Path.{◌≡◌, refl, sym, ap, ◌∙◌}
 use mathlib.Core.Logic.{◌≢◌}
 use mathlib.Core.Bool.{Bool, true, false, ◌&&◌}
@@ -9,7 +10,6 @@ use native.Mathlib.Decide.{ℕ_discrete}
 use lib.ListN.{length}
 use Rattle.rules.specs.declared.Key.{Key}
 use Rattle.rules.specs.declared.Found.TheVariants as lookup
-use Rattle.rules.specs.Notation.{if◌then◌else◌, ◌==◌}
 use Rattle.rules.specs.Tables.{most_slots, frame_width, header_width, frame_at, header_at, cell, State, Side, elem_side, shared_side, field_of, is_live, found}
 use Rattle.rules.specs.Calls.{Ready}
 use Rattle.rules.specs.Renaming.{SameRuns}

@@ -1,4 +1,5 @@
 -- The keys live in a copy are exactly those live in its source, and each call that only reads answers alike on both (Ticket 10).
+use Rattle.std.specs.Prelude.{if◌then◌else◌, ◌==◌}
 use mathlib.Core.Path.{◌≡◌, refl, sym, ap, ◌∙◌, subst}
 use mathlib.Core.Logic.{◌≢◌}
 use mathlib.Core.Bool.{Bool, true, false, ◌&&◌, ◌||◌}
@@ -13,7 +14,7 @@ use Rattle.rules.specs.declared.Cause.{Cause}
 use Rattle.rules.specs.declared.Cause.TheVariants.{NoSlot, FreeSlot, OtherGeneration}
 use Rattle.rules.specs.declared.Found.TheVariants as lookup
 use Rattle.rules.specs.declared.Refusal.TheVariants.{Short}
-use Rattle.rules.specs.Notation.{if◌then◌else◌, ◌==◌, ◌≤?◌, ◌<?◌, along, up_to, flat, keep, every}
+use Rattle.rules.specs.Notation.{◌≤?◌, ◌<?◌, along, up_to, flat, keep, every}
 use Rattle.rules.specs.Tables
 use Rattle.rules.specs.Tables.{generation_of, class_of, value_of, total_of, State, elem_side, shared_side, is_live, is_free, cause, found, key_at, size_at}
 use Rattle.rules.specs.Refusals.{Ruling, refuse, accept, answer, Outcome, outcome, when_live, with_live}

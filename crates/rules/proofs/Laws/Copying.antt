@@ -1,4 +1,5 @@
 -- Ticket 10: the book's claim of every copy at the host's door, proved.
+use Rattle.std.specs.Prelude.{if◌then◌else◌}
 use mathlib.Core.Path.{◌≡◌, refl, sym, ap, ◌∙◌, subst}
 use mathlib.Core.Logic.{◌≢◌, ◌⊎◌, inl, inr}
 use mathlib.Core.Bool.{Bool, true, false, true≢false}
@@ -8,7 +9,7 @@ use native.Mathlib.Omega.{arith}
 use native.Mathlib.Decide.{dec_lt}
 use lib.Dec.{T}
 use Rattle.rules.specs.declared.Refusal.TheVariants.{Shape, Unsound, NoElement, NoShared}
-use Rattle.rules.specs.Notation.{if◌then◌else◌, ◌<?◌}
+use Rattle.rules.specs.Notation.{◌<?◌}
 use Rattle.rules.specs.Tables.{most_slots, State, Side, field_of, elem_side, shared_side, is_live}
 use Rattle.rules.specs.Sound.{Frame, Header}
 use Rattle.rules.specs.Refusals.{shaped}

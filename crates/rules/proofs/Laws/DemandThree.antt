@@ -1,4 +1,5 @@
 -- Demand 3, for every sequence of calls from fresh tables: the book's claim, proved.
+use Rattle.std.specs.Prelude.{◌==◌}
 use mathlib.Core.Path.{◌≡◌, sym, ap, ◌∙◌, subst, refl}
 use mathlib.Core.Logic.{◌≢◌, inl}
 use mathlib.Core.Bool.{true≢false}
@@ -9,7 +10,7 @@ use lib.ListN.{length}
 use Rattle.rules.specs.declared.Key.{Key}
 use Rattle.rules.specs.declared.Refusal.{Refusal}
 use Rattle.rules.specs.declared.Refusal.TheVariants.{Shape, Unsound, Dead, SameClass, NoElement, NoShared, Short, Malformed, NoFile, Version, Sealed, Nothing, OutOfRange}
-use Rattle.rules.specs.Notation.{◌==◌, ◌<?◌}
+use Rattle.rules.specs.Notation.{◌<?◌}
 use Rattle.rules.specs.Tables.{class_of, State, size_at, is_sealed}
 use Rattle.rules.specs.Refusals.{Ruling, refuse, accept, Outcome, outcome, said_refused, number_of}
 use Rattle.rules.specs.Runs

@@ -1,4 +1,5 @@
 -- What the head remembers describes a union (Undo, `Describes`) exactly if a walk finds it (`Traced`): so a walk of the check decides it.
+use Rattle.std.specs.Prelude.{if◌then◌else◌, ◌==◌}
 use mathlib.Core.Path.{◌≡◌, refl, sym, ap, ◌∙◌, subst}
 use mathlib.Core.Logic.{◌≢◌, ◌↔◌, inl, inr}
 use mathlib.Core.Bool.{Bool, true, false}
@@ -11,7 +12,7 @@ use Rattle.rules.specs.declared.Memory.{Memory}
 use Rattle.rules.specs.declared.Found.TheVariants as lookup
 use Rattle.rules.specs.declared.Refusal.{Refusal}
 use Rattle.rules.specs.declared.Refusal.TheVariants.{SameClass, Sealed}
-use Rattle.rules.specs.Notation.{if◌then◌else◌, ◌==◌, ◌<?◌}
+use Rattle.rules.specs.Notation.{◌<?◌}
 use Rattle.rules.specs.Tables.{blank, State, with_undo, Side, elem_side, shared_side, class_of, mark_of, found, key_at, size_at, is_sealed}
 use Rattle.rules.specs.Refusals.{Ruling, refuse, outcome}
 use Rattle.rules.specs.Slots.{taken}

@@ -1,4 +1,5 @@
 -- Drain a run, drain all: removals one after another, so a sound state is kept.
+use Rattle.std.specs.Prelude.{if◌then◌else◌}
 use mathlib.Core.Path.{◌≡◌, refl, sym, ap, ◌∙◌}
 use mathlib.Core.Logic.{◌≢◌, ◌⊎◌, inl, inr}
 use mathlib.Core.Bool.{Bool, true, false}
@@ -7,7 +8,7 @@ use Prim.Native.Nat.{ℕ, zero, suc, ◌-◌, ◌≤◌}
 use native.Mathlib.Omega.{arith}
 use lib.Dec.{T}
 use lib.ListN.{length, get_or}
-use Rattle.rules.specs.Notation.{if◌then◌else◌, up_to, keep}
+use Rattle.rules.specs.Notation.{up_to, keep}
 use Rattle.rules.specs.Tables.{frame_width, header_width, frame_at, header_at, State, elem_side, is_live, size_at}
 use Rattle.rules.specs.Runs.{removed}
 use Rattle.rules.specs.Drains.{drained, lowest, all_drained}

@@ -1,4 +1,5 @@
 -- Every rule obeys the sentence of what a call makes of what the head remembers (Keeping); and so that stays part of soundness.
+use Rattle.std.specs.Prelude.{if◌then◌else◌, ◌==◌}
 use mathlib.Core.Path.{◌≡◌, refl, sym, ap, subst, ◌∙◌}
 use mathlib.Core.Logic.{◌≢◌, inl, inr}
 use mathlib.Core.Bool.{Bool, true, false}
@@ -7,7 +8,7 @@ use Prim.Native.Nat.{ℕ, zero, suc, ◌≤◌}
 use native.Mathlib.Omega.{arith}
 use lib.ListN.{length}
 use Rattle.rules.specs.declared.Key.{Key}
-use Rattle.rules.specs.Notation.{if◌then◌else◌, ◌==◌, ◌<?◌}
+use Rattle.rules.specs.Notation.{◌<?◌}
 use Rattle.rules.specs.Tables.{frame_width, blank, State, with_undo, elem_side, class_of, next_of, size_at, is_sealed}
 use Rattle.rules.specs.Sound.{Frame}
 use Rattle.rules.specs.Refusals.{Ruling, refuse, accept, outcome, with_live}

@@ -1,11 +1,12 @@
 -- Every call leads from a good state and history to a good state and history.
+use Rattle.std.specs.Prelude.{◌==◌}
 use mathlib.Core.Path.{◌≡◌}
 use mathlib.Core.Logic.{◌≢◌}
 use mathlib.Core.List.{List, [], map}
 use Prim.Native.Nat.{ℕ}
 use lib.ListN.{length}
 use Rattle.rules.specs.declared.Key.{Key}
-use Rattle.rules.specs.Notation.{◌==◌, ◌<?◌}
+use Rattle.rules.specs.Notation.{◌<?◌}
 use Rattle.rules.specs.Tables.{frame_width, class_of, State, size_at, is_sealed, blank}
 use Rattle.rules.specs.Reads
 use Rattle.rules.specs.Slots.{is_full}

@@ -1,4 +1,5 @@
 -- Tables 3: an extent is the highest slot used. Taking a slot leaves it the higher of what it was and that slot, and no call lowers it but those that begin the tables anew.
+use Rattle.std.specs.Prelude.{if◌then◌else◌, ◌==◌}
 use mathlib.Core.Path.{◌≡◌, refl}
 use mathlib.Core.Logic.{◌⊎◌, inl, inr}
 use mathlib.Core.Bool.{Bool, true, false}
@@ -8,7 +9,7 @@ use native.Mathlib.Omega.{arith}
 use lib.ListN.{length}
 use Rattle.rules.specs.declared.Pool.{Pool}
 use Rattle.rules.specs.declared.Key.{Key}
-use Rattle.rules.specs.Notation.{if◌then◌else◌, ◌==◌, ◌<?◌}
+use Rattle.rules.specs.Notation.{◌<?◌}
 use Rattle.rules.specs.Tables.{frame_width, class_of, next_of, bytes_of, count_of, State, Side, elem_side, shared_side, size_at, is_sealed}
 use Rattle.rules.specs.Sound.{both_fit}
 use Rattle.rules.specs.Refusals.{Ruling, refuse, accept, outcome, with_live}

@@ -1,4 +1,5 @@
 -- Ticket 11, proved: what is claimed of the run file.
+use Rattle.std.specs.Prelude.{if◌then◌else◌, ◌==◌}
 use mathlib.Core.Path.{◌≡◌, refl, sym, ap, ◌∙◌, subst}
 use mathlib.Core.Logic.{◌≢◌, ◌⊎◌, inl, inr}
 use mathlib.Core.Bool.{Bool, true, false, true≢false}
@@ -10,7 +11,7 @@ use lib.ListN.{length, take, drop}
 use lib.Seq.{length-take-le}
 use Rattle.rules.specs.declared.Refusal.{Refusal}
 use Rattle.rules.specs.declared.Refusal.TheVariants.{Shape, Unsound, Short, NoElement, NoShared, NoFile, Version}
-use Rattle.rules.specs.Notation.{if◌then◌else◌, ◌==◌, ◌<?◌}
+use Rattle.rules.specs.Notation.{◌<?◌}
 use Rattle.rules.specs.Tables.{header_at, mark_of, State, elem_side}
 use Rattle.rules.specs.Undo.{Whole}
 use Rattle.rules.specs.Refusals.{number_of, values_of, Ruling, refuse, accept, answer, Outcome, outcome, shaped, door}

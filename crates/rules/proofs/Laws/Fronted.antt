@@ -1,4 +1,5 @@
 -- One history, written in two ways: the runs in another order, each begun anywhere. The run of a key comes to the front.
+use Rattle.std.specs.Prelude.{if◌then◌else◌}
 use mathlib.Core.Path.{◌≡◌, refl, sym, ap, ◌∙◌}
 use mathlib.Core.Logic.{◌≢◌, ◌⊎◌, inl, inr}
 use mathlib.Core.Bool.{Bool, true, false, not}
@@ -7,7 +8,7 @@ use Prim.Native.Nat.{ℕ, suc, ◌+◌}
 use native.Mathlib.Omega.{arith}
 use lib.ListN.{length, length-append}
 use Rattle.rules.specs.declared.Key.{Key}
-use Rattle.rules.specs.Notation.{if◌then◌else◌, flat}
+use Rattle.rules.specs.Notation.{flat}
 use Rattle.rules.specs.Calls.{Is}
 use Rattle.rules.specs.History.{before, after, holds, others_of, run_of, runs_but}
 use Rattle.rules.proofs.Laws.Lists.{All, In, Out, NoDup, all_map, all-at, all_of, in_left, in_right, in_parts, in_swap, nodup_parts, nodup_append, nodup_swap, out-not}

@@ -1,4 +1,5 @@
 -- Ticket 6: the sizes that a history has are those of the live frames.
+use Rattle.std.specs.Prelude.{if◌then◌else◌}
 use mathlib.Core.Path.{◌≡◌, refl, sym, ap, ◌∙◌, subst}
 use mathlib.Core.Logic.{◌≢◌, inl, inr}
 use mathlib.Core.Bool.{Bool, true, false}
@@ -8,7 +9,7 @@ use native.Mathlib.Omega.{arith}
 use native.Mathlib.Decide.{ℕ_discrete}
 use lib.Dec.{T}
 use Rattle.rules.specs.declared.Key.{Key}
-use Rattle.rules.specs.Notation.{if◌then◌else◌, along, sum, flat, keep}
+use Rattle.rules.specs.Notation.{along, sum, flat, keep}
 use Rattle.rules.specs.Calls.{Is}
 use Rattle.rules.specs.History.{Given, same_key, holds, still_given, given_for, named_anew}
 use Rattle.rules.proofs.Laws.Lists.{All, In, all_map, all-at, all_of, all_image}

@@ -1,4 +1,5 @@
 -- Ticket 9: the place of the highest one bit, by powers of two; and what the figure does when numbers are added.
+use Rattle.std.specs.Prelude.{if◌then◌else◌}
 use mathlib.Core.Path.{◌≡◌, refl, ◌∙◌}
 use mathlib.Core.Bool.{Bool, true, false}
 use Prim.Native.Nat.{ℕ, zero, suc, ◌+◌, ◌*◌, ◌^◌, ◌≤◌, ◌<◌}
@@ -6,7 +7,7 @@ use native.Mathlib.Nat.{pow-suc, add-mul, mul-suc, mul-le-mul_left}
 use native.Mathlib.Decide.{dec_le}
 use native.Mathlib.Omega.{arith}
 use lib.Pow.{pow_mono}
-use Rattle.rules.specs.Notation.{if◌then◌else◌, ◌≤?◌}
+use Rattle.rules.specs.Notation.{◌≤?◌}
 use Rattle.rules.specs.Tables.{most_slots}
 use Rattle.rules.specs.Calls.{Is}
 use Rattle.rules.specs.Ceiling.{highest_bit, HighestBit, ceiling}

@@ -1,4 +1,5 @@
 -- Every call keeps a sound state: whatever is accepted or refused, shape and soundness hold after it.
+use Rattle.std.specs.Prelude.{if◌then◌else◌, ◌==◌}
 use mathlib.Core.Path.{◌≡◌, refl, sym}
 use mathlib.Core.Logic.{◌≢◌}
 use mathlib.Core.Bool.{Bool, true, false}
@@ -9,7 +10,7 @@ use lib.ListN.{length}
 use Rattle.rules.specs.declared.Key.{Key}
 use Rattle.rules.specs.declared.Found.TheVariants as lookup
 use Rattle.rules.specs.declared.Refusal.TheVariants.{Shape}
-use Rattle.rules.specs.Notation.{if◌then◌else◌, ◌==◌, ◌<?◌}
+use Rattle.rules.specs.Notation.{◌<?◌}
 use Rattle.rules.specs.Tables.{sized, frame_width, class_of, State, size_at, is_sealed, blank}
 use Rattle.rules.specs.Refusals
 use Rattle.rules.specs.Refusals.{Ruling, refuse, accept, outcome, with_live}

@@ -1,10 +1,10 @@
 -- Keys: told apart by both numbers; membership and none twice, as demand 3 says them and as the laws of lists do.
+use Rattle.std.specs.Prelude.{if◌then◌else◌, ◌==◌}
 use mathlib.Core.Path.{◌≡◌, ap}
 use mathlib.Core.Logic.{inl, inr}
 use mathlib.Core.Bool.{Bool, true, false}
 use mathlib.Core.List.{List, [], ◌∷◌, ◌++◌}
 use Rattle.rules.specs.declared.Key.{Key}
-use Rattle.rules.specs.Notation.{if◌then◌else◌, ◌==◌}
 use Rattle.rules.specs.Calls.{Is}
 use Rattle.rules.specs.History.{same_key, before, after, holds}
 use Rattle.rules.specs.Demand

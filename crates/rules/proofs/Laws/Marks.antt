@@ -1,4 +1,5 @@
 -- Rules 10 and 11: where none of the records that a drain wrote says overflow, each frame drained has raised the generation by one.
+use Rattle.std.specs.Prelude.{if◌then◌else◌, ◌==◌}
 use mathlib.Core.Path.{◌≡◌, refl, sym, ap, ◌∙◌, subst}
 use mathlib.Core.Logic.{◌≢◌}
 use mathlib.Core.Bool.{Bool, true, false}
@@ -9,7 +10,7 @@ use lib.ListN.{length, get_or, length-append}
 use Rattle.rules.specs.declared.Key.{Key}
 use Rattle.rules.specs.declared.Rest.{Rest}
 use Rattle.rules.specs.declared.Rest.TheVariants.{GoesOn, Last}
-use Rattle.rules.specs.Notation.{if◌then◌else◌, ◌==◌, steps, flat}
+use Rattle.rules.specs.Notation.{steps, flat}
 use Rattle.rules.specs.Tables.{last_generation, cell, next_of, State, with_shared, size_at, count_of, class_of, bytes_of, total_of}
 use Rattle.rules.specs.Slots.{free_element, free_shared, raised, raise, overflows}
 use Rattle.rules.specs.Runs.{counted, unlinked, left, removed, rest_of}

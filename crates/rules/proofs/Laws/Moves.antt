@@ -1,4 +1,5 @@
 -- Ticket 8: what a call of its premise does to the history's keys and to its generation.
+use Rattle.std.specs.Prelude.{if◌then◌else◌, ◌==◌}
 use mathlib.Core.Path.{◌≡◌, refl, sym, ap, ◌∙◌, subst, subst⁻¹}
 use mathlib.Core.Logic.{◌≢◌, ◌⊎◌, inl, inr}
 use mathlib.Core.Bool.{Bool, true, false, true≢false, ◌&&◌, not}
@@ -10,7 +11,7 @@ use Rattle.rules.specs.declared.Key.{Key}
 use Rattle.rules.specs.declared.Memory.{Memory}
 use Rattle.rules.specs.declared.Refusal.{Refusal}
 use Rattle.rules.specs.declared.Refusal.TheVariants.{SameClass, NoElement, NoShared, Short, Sealed, Nothing}
-use Rattle.rules.specs.Notation.{if◌then◌else◌, ◌==◌, ◌<?◌, steps, along, flat}
+use Rattle.rules.specs.Notation.{◌<?◌, steps, along, flat}
 use Rattle.rules.specs.Tables.{frame_width, last_generation, class_of, State, size_at, is_sealed}
 use Rattle.rules.specs.Refusals.{Ruling, refuse, Outcome, outcome, number_of}
 use Rattle.rules.specs.Reads

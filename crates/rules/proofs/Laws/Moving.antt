@@ -1,4 +1,5 @@
 -- Ticket 12: the book's claim of every move at the host's door, proved; and the histories of both sides.
+use Rattle.std.specs.Prelude.{if◌then◌else◌, ◌==◌}
 use mathlib.Core.Path.{◌≡◌, refl, sym, ap, ◌∙◌, subst}
 use mathlib.Core.Logic.{◌≢◌, ◌⊎◌, inl, inr}
 use mathlib.Core.Bool.{Bool, true, false, true≢false, ◌||◌}
@@ -8,7 +9,7 @@ use native.Mathlib.Omega.{arith}
 use native.Mathlib.Decide.{ℕ_discrete, dec_lt}
 use Rattle.rules.specs.declared.Refusal.{Refusal}
 use Rattle.rules.specs.declared.Refusal.TheVariants.{Shape, Unsound, NoElement, NoShared, OutOfRange}
-use Rattle.rules.specs.Notation.{if◌then◌else◌, ◌==◌, ◌<?◌}
+use Rattle.rules.specs.Notation.{◌<?◌}
 use Rattle.rules.specs.Tables.{last_generation, State, blank, elem_side}
 use Rattle.rules.specs.Refusals.{shaped}
 use Rattle.rules.specs.Slots.{overflows, empty}

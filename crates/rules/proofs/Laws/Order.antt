@@ -1,4 +1,5 @@
 -- The canonical order of a sound state (Rules 14) lists exactly the frames, none twice; and its classes exactly the headers.
+use Rattle.std.specs.Prelude.{if◌then◌else◌}
 use mathlib.Core.Path.{◌≡◌, refl, sym, ap, ◌∙◌, subst}
 use mathlib.Core.Logic.{◌≢◌, ◌⊎◌, inl, inr}
 use mathlib.Core.List.{List, [], ◌∷◌, ◌++◌, map, map-append, append-nil, append_assoc}
@@ -7,7 +8,7 @@ use Prim.Native.Nat.{ℕ, zero, suc, ◌+◌, ◌≤◌, ◌<◌}
 use native.Mathlib.Omega.{arith}
 use native.Mathlib.Decide.{ℕ_discrete}
 use lib.ListN.{length}
-use Rattle.rules.specs.Notation.{if◌then◌else◌, ◌≤?◌, along, up_to, flat, keep, every}
+use Rattle.rules.specs.Notation.{◌≤?◌, along, up_to, flat, keep, every}
 use Rattle.rules.specs.Tables.{class_of, State, elem_side, is_live}
 use Rattle.rules.specs.Calls.{Is}
 use Rattle.rules.specs.Drains.{ring}

@@ -1,4 +1,5 @@
 -- Places in a list, a column that ends, and a table that is written row by row: what compression, a copy and a move number slots by.
+use Rattle.std.specs.Prelude.{if◌then◌else◌}
 use mathlib.Core.Path.{◌≡◌, refl, sym, ap, ◌∙◌, fun_ext, subst₂}
 use mathlib.Core.Logic.{◌≢◌, ◌⊎◌, inl, inr}
 use mathlib.Core.Bool.{Bool, true, false}
@@ -10,7 +11,7 @@ use native.Mathlib.Decide.{dec_lt}
 use lib.Dec.{T, eqb, eqb→eq, eqb_refl}
 use lib.ListN.{length, get_or, replicate, length-append, length-replicate, get_or-append}
 use lib.Seq.{get_or-append-add, ext_get_or}
-use Rattle.rules.specs.Notation.{if◌then◌else◌, flat}
+use Rattle.rules.specs.Notation.{flat}
 use Rattle.rules.specs.Tables.{cell}
 use Rattle.rules.specs.Compress.{place_of, padded}
 use Rattle.rules.proofs.Laws.Columns.{choose, get_d-zeros}

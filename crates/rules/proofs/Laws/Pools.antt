@@ -1,5 +1,6 @@
 -- One table's slots: which are live, the free chain, the extent; taking and freeing a slot. For both tables alike:
 -- `g` is the column that is 0 where a slot is free, `n` the column that holds the next free slot.
+use Rattle.std.specs.Prelude.{if◌then◌else◌, ◌==◌}
 use mathlib.Core.Path.{◌≡◌, refl, sym, ap, ◌∙◌, subst}
 use mathlib.Core.Logic.{◌≢◌, ◌⊎◌, inl, inr}
 use mathlib.Core.List.{List, [], ◌∷◌}
@@ -10,7 +11,6 @@ use native.Mathlib.Numerals.{add-one}
 use native.Mathlib.Decide.{ℕ_discrete, dec_lt}
 use lib.Dec.{T, eqb, eqb→eq, eqb_refl}
 use Rattle.rules.specs.declared.Pool.{Pool}
-use Rattle.rules.specs.Notation.{if◌then◌else◌, ◌==◌}
 use Rattle.rules.specs.Tables.{Side, field_of}
 use Rattle.rules.specs.Slots.{slot_of, taken, freed}
 use Rattle.rules.proofs.Laws.Columns.{upd, upd_same, upd_other}
@@ -100,10 +100,10 @@ eqb-true m n e = rw e (go (eqb n n) (eqb_refl n))
     go true t = refl
     go false t = absurd t
 
-pub if_eq {ℓ} : {A : Type ℓ} (m n : ℕ) (a b : A) → m ≡ n → (if m == n then a else b) ≡ a
+pub if_eq : {A : Type 0} (m n : ℕ) (a b : A) → m ≡ n → (if m == n then a else b) ≡ a
 if_eq m n a b e = rw (eqb-true m n e)
 
-pub if_ne {ℓ} : {A : Type ℓ} (m n : ℕ) (a b : A) → m ≢ n → (if m == n then a else b) ≡ b
+pub if_ne : {A : Type 0} (m n : ℕ) (a b : A) → m ≢ n → (if m == n then a else b) ≡ b
 if_ne m n a b e = rw (eqb-false m n e)
 
 -- a chain that is not empty: its root, and the rest

@@ -1,4 +1,5 @@
 -- Reading what was written (Ticket 11): the tables of a sound state's runs are those that canonical compression gives, but that no header is marked.
+use Rattle.std.specs.Prelude.{if◌then◌else◌}
 use mathlib.Core.Path.{◌≡◌, refl, sym, ap, ◌∙◌, subst}
 use mathlib.Core.Logic.{◌≢◌, inl, inr}
 use mathlib.Core.Bool.{Bool, true, false}
@@ -7,7 +8,7 @@ use Prim.Native.Nat.{ℕ, zero, suc, ◌+◌, ◌*◌, ◌-◌, ◌≤◌, ◌<�
 use native.Mathlib.Omega.{arith}
 use lib.ListN.{length, get_or, length-append, length-map, get_or-append}
 use lib.Seq.{get_or-append-add}
-use Rattle.rules.specs.Notation.{if◌then◌else◌, steps, along, sum, flat}
+use Rattle.rules.specs.Notation.{steps, along, sum, flat}
 use Rattle.rules.specs.Tables.{frame_width, header_width, header_at, cell, payload_of, class_of, previous_of, next_of, bytes_of, count_of, value_of, mark_of, total_of, State}
 use Rattle.rules.specs.Runs.{frame, header}
 use Rattle.rules.specs.Drains.{ring}

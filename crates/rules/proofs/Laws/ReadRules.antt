@@ -1,4 +1,5 @@
 -- What the reader's rule decides (Ticket 11), case by case; and what an accepted read is.
+use Rattle.std.specs.Prelude.{if◌then◌else◌}
 use mathlib.Core.Path.{◌≡◌, refl, sym, ap, ◌∙◌, subst}
 use mathlib.Core.Bool.{Bool, true, false}
 use mathlib.Core.List.{List, []}
@@ -6,7 +7,7 @@ use Prim.Native.Nat.{ℕ, suc, ◌≤◌, ◌<◌}
 use native.Mathlib.Omega.{arith}
 use lib.ListN.{length}
 use Rattle.rules.specs.declared.Refusal.TheVariants.{Shape, NoElement, NoShared, NoFile, Version}
-use Rattle.rules.specs.Notation.{if◌then◌else◌, ◌<?◌}
+use Rattle.rules.specs.Notation.{◌<?◌}
 use Rattle.rules.specs.Tables.{State}
 use Rattle.rules.specs.Refusals.{Ruling, refuse, answer, outcome, shaped}
 use Rattle.rules.specs.Calls.{Is}

@@ -1,4 +1,5 @@
 -- What can be undone, with the history: the head remembers nothing, or the state taken back holds the runs before the last union. So undo steps both.
+use Rattle.std.specs.Prelude.{if◌then◌else◌}
 use mathlib.Core.Path.{◌≡◌, refl, sym, ap, subst, ◌∙◌}
 use mathlib.Core.Logic.{◌≢◌, ◌⊎◌, inl, inr}
 use mathlib.Core.Bool.{Bool, true, false}
@@ -9,7 +10,6 @@ use Rattle.rules.specs.declared.Key.{Key}
 use Rattle.rules.specs.declared.Memory.{Memory}
 use Rattle.rules.specs.declared.Refusal.{Refusal}
 use Rattle.rules.specs.declared.Refusal.TheVariants.{Shape, Unsound, Dead, SameClass, NoElement, NoShared, Short, Malformed, NoFile, Version, Nothing, Sealed, OutOfRange}
-use Rattle.rules.specs.Notation.{if◌then◌else◌}
 use Rattle.rules.specs.Tables.{blank, State, elem_side}
 use Rattle.rules.specs.Sound.{both_fit}
 use Rattle.rules.specs.Refusals.{Ruling, refuse, accept, answer, outcome}

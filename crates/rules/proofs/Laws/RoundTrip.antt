@@ -1,4 +1,5 @@
 -- The whole file: what is written reads back, what is read writes back, and a cut file departs from the layout.
+use Rattle.std.specs.Prelude.{if◌then◌else◌, ◌==◌}
 use Prim.Native.Nat.{ℕ, zero, suc, ◌+◌, ◌*◌, ◌-◌, ◌%◌, ◌/◌, ◌≤◌, ◌<◌}
 use mathlib.Core.Path.{◌≡◌, refl, sym, ap, ◌∙◌, subst}
 use mathlib.Core.Bool.{Bool, true, false, ◌&&◌}
@@ -8,7 +9,7 @@ use native.Mathlib.Nat.{div-add-mod, mod-lt}
 use borrow.Author.Tests.{le-leb, leb-true, eq-eqb, eqb-true}
 use lib.ListN.{length, take, drop, length-append, length-drop, take-append-drop}
 use lib.Seq.{drop_at, take-nil}
-use Rattle.rules.specs.Notation.{if◌then◌else◌, ◌==◌, ◌≤?◌, sum, flat, All}
+use Rattle.rules.specs.Notation.{◌≤?◌, sum, flat, All}
 use Rattle.rules.specs.Bytes.{Got, unread, got, Reader, onward, ◌>>=◌, return, reject, times, little, value, limit, Bytes, number}
 use Rattle.rules.specs.RunFile.{StoredFrame, StoredRun, Entry, total, frame_bytes, body_bytes, body_length, entries, entry_bytes, first_body, after_version, file, stored_frame, body, entry, bodies, runs, Parsed, departs, holds, whole, parse, FrameFits, RunFits, EntryFits, Fits}
 use Rattle.rules.proofs.Laws.Numbers.{Is, number-back, length-little, little-value, bytes_drop}

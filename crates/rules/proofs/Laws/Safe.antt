@@ -1,4 +1,5 @@
 -- The range facts that code rests on: flat, so that index and sum needs find them. They follow from a sound state.
+use Rattle.std.specs.Prelude.{if◌then◌else◌, ◌==◌}
 use Prim.Native.Nat.{ℕ, ◌*◌, ◌≤◌, ◌<◌}
 use mathlib.Core.Path.{◌≡◌, refl}
 use mathlib.Core.Logic.{◌≢◌}
@@ -10,7 +11,6 @@ use lib.ListN.{length}
 use Rattle.rules.specs.declared.Pool.{Pool}
 use Rattle.rules.specs.declared.Key.{Key}
 use Rattle.rules.specs.declared.Found.TheVariants as lookup
-use Rattle.rules.specs.Notation.{if◌then◌else◌, ◌==◌}
 use Rattle.rules.specs.Tables.{most_slots, last_generation, most_bytes, total_bound, frame_width, header_width, generation_of, class_of, previous_of, next_of, bytes_of, count_of, total_of, State, elem_side, is_live, cause, found}
 use Rattle.rules.specs.Calls.{Ready}
 use Rattle.rules.proofs.Laws.Lists.{All, Walk, all_map}

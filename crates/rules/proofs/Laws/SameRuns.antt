@@ -1,4 +1,5 @@
 -- THE LAW said once over both compressions (Ticket 3): where slots are renumbered, runs, rings, counts and payloads are the same up to the renaming.
+use Rattle.std.specs.Prelude.{if◌then◌else◌}
 use mathlib.Core.Path.{◌≡◌, refl, sym, ap, ◌∙◌}
 use mathlib.Core.Logic.{◌≢◌}
 use mathlib.Core.Bool.{Bool, true, false}
@@ -6,7 +7,7 @@ use mathlib.Core.List.{List, map}
 use Prim.Native.Nat.{ℕ}
 use native.Mathlib.Omega.{arith}
 use Rattle.rules.specs.declared.Refusal.TheVariants.{Short}
-use Rattle.rules.specs.Notation.{if◌then◌else◌, along}
+use Rattle.rules.specs.Notation.{along}
 use Rattle.rules.specs.Tables.{frame_width, State, elem_side, shared_side}
 use Rattle.rules.specs.Refusals.{refuse, accept, outcome}
 use Rattle.rules.specs.Sound.{Frame, Header}

@@ -1,4 +1,5 @@
 -- Ticket 1, the finalizer's theorem: what a seal answered and wrote is the run, and over any further calls no frame comes into it.
+use Rattle.std.specs.Prelude.{if◌then◌else◌, ◌==◌}
 use mathlib.Core.Path.{◌≡◌, refl, sym, ap, ◌∙◌, subst}
 use mathlib.Core.Logic.{◌≢◌}
 use mathlib.Core.Bool.{Bool, true, false}
@@ -9,7 +10,7 @@ use lib.ListN.{length, drop, length-map}
 use Rattle.rules.specs.declared.Key.{Key}
 use Rattle.rules.specs.declared.Refusal.{Refusal}
 use Rattle.rules.specs.declared.Refusal.TheVariants as refusal
-use Rattle.rules.specs.Notation.{if◌then◌else◌, ◌==◌, flat, keep}
+use Rattle.rules.specs.Notation.{flat, keep}
 use Rattle.rules.specs.Tables
 use Rattle.rules.specs.Tables.{frame_width, State, elem_side, shared_side, size_at, is_sealed}
 use Rattle.rules.specs.Refusals.{Ruling, refuse, accept, Outcome, outcome, number_of}

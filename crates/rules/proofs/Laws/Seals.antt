@@ -1,4 +1,5 @@
 -- Ticket 1: the keys that a history calls sealed are those of the live frames whose header is marked.
+use Rattle.std.specs.Prelude.{if◌then◌else◌}
 use mathlib.Core.Path.{◌≡◌, refl, sym, ap, ◌∙◌}
 use mathlib.Core.Bool.{Bool, true, false}
 use mathlib.Core.List.{List, [], ◌∷◌}
@@ -7,7 +8,7 @@ use native.Mathlib.Omega.{arith}
 use native.Mathlib.Decide.{ℕ_discrete}
 use lib.Dec.{T}
 use Rattle.rules.specs.declared.Key.{Key}
-use Rattle.rules.specs.Notation.{if◌then◌else◌, flat, keep}
+use Rattle.rules.specs.Notation.{flat, keep}
 use Rattle.rules.specs.Calls.{Is}
 use Rattle.rules.specs.History.{holds, still_in}
 use Rattle.rules.proofs.Laws.Lists.{All, In, all_map, all-at, all_of}

@@ -1,4 +1,5 @@
 -- Live and free slots of either table: the book's tests as facts on columns; and Sound 2, 3, 5 and 6 of one table.
+use Rattle.std.specs.Prelude.{if◌then◌else◌, ◌==◌}
 use mathlib.Core.Path.{◌≡◌, sym, ap, subst, ◌∙◌}
 use mathlib.Core.Logic.{◌≢◌}
 use mathlib.Core.Bool.{Bool, true, false, ◌&&◌, not}
@@ -9,7 +10,7 @@ use native.Mathlib.Omega.{arith}
 use native.Mathlib.Decide.{ℕ_discrete, dec_lt, dec_le}
 use lib.Dec.{T, leb→le, le→leb, eqb→eq, eqb_refl, T_not, not_T}
 use lib.ListN.{length}
-use Rattle.rules.specs.Notation.{if◌then◌else◌, ◌==◌, ◌≤?◌, steps, along, up_to, keep}
+use Rattle.rules.specs.Notation.{◌≤?◌, steps, along, up_to, keep}
 use Rattle.rules.specs.Tables.{Side, field_of, is_free, is_live}
 use Rattle.rules.specs.Sound.{chain_at, Chain}
 use Rattle.rules.proofs.Laws.Columns.{cell-none, cell_out}

@@ -1,4 +1,5 @@
 -- The book's soundness, a field for each clause of 01, and the working form are one: both directions.
+use Rattle.std.specs.Prelude.{◌==◌}
 use mathlib.Core.Path.{◌≡◌, refl, sym, ap, ◌∙◌, subst}
 use mathlib.Core.Logic.{◌≢◌}
 use mathlib.Core.Bool.{Bool, true, false, ◌&&◌}
@@ -8,7 +9,7 @@ use native.Mathlib.Omega.{arith}
 use native.Mathlib.Decide.{ℕ_discrete}
 use lib.Dec.{T, leb→le, le→leb, eqb→eq, eqb_refl}
 use lib.ListN.{length}
-use Rattle.rules.specs.Notation.{◌==◌, ◌≤?◌, steps, along, sum}
+use Rattle.rules.specs.Notation.{◌≤?◌, steps, along, sum}
 use Rattle.rules.specs.Tables.{most_slots, last_generation, most_bytes, frame_width, header_width, next_of, State, elem_side, shared_side, size_at}
 use Rattle.rules.specs.Sound.{fits, both_fit, Sound, Frame, Header, OneRing, RingSize}
 use Rattle.rules.specs.Refusals.{shaped}

@@ -1,4 +1,5 @@
 -- Ticket 8, proved: a removed frame's key stays dead.
+use Rattle.std.specs.Prelude.{if◌then◌else◌, ◌==◌}
 use mathlib.Core.Path.{◌≡◌, refl, sym, ap, ◌∙◌, subst}
 use mathlib.Core.Logic.{◌≢◌, ◌⊎◌, inl, inr}
 use mathlib.Core.Bool.{Bool, true, false, ◌&&◌, not}
@@ -11,7 +12,7 @@ use Rattle.rules.specs.declared.Found.{Found}
 use Rattle.rules.specs.declared.Found.TheVariants.{Live, Dead}
 use Rattle.rules.specs.declared.Refusal.{Refusal}
 use Rattle.rules.specs.declared.Refusal.TheVariants.{NoElement, NoShared, Short, Sealed}
-use Rattle.rules.specs.Notation.{along, flat, if◌then◌else◌, ◌==◌}
+use Rattle.rules.specs.Notation.{along, flat}
 use Rattle.rules.specs.Tables
 use Rattle.rules.specs.Tables.{last_generation, frame_width, State, found, size_at, sized, is_sealed}
 use Rattle.rules.specs.Refusals

@@ -1,4 +1,5 @@
 -- Ticket 1: what the calls but compression do to the live slots, their classes and their marks. No frame comes into a sealed run.
+use Rattle.std.specs.Prelude.{◌==◌}
 use mathlib.Core.Path.{◌≡◌, refl, sym, ap, ◌∙◌}
 use mathlib.Core.Logic.{◌≢◌}
 use mathlib.Core.Bool.{false}
@@ -7,7 +8,6 @@ use Prim.Native.Nat.{ℕ, zero, suc, ◌≤◌}
 use native.Mathlib.Omega.{arith}
 use native.Mathlib.Decide.{ℕ_discrete}
 use Rattle.rules.specs.Tables.{State, elem_side, shared_side, size_at, is_sealed}
-use Rattle.rules.specs.Notation.{◌==◌}
 use Rattle.rules.specs.Slots.{slot_of, taken}
 use Rattle.rules.specs.Runs.{begun, inserted, joined, removed}
 use Rattle.rules.specs.Drains.{drained}

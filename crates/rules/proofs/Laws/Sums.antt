@@ -1,4 +1,5 @@
 -- Sums over lists, none of whose members stands twice: equal where the members that count are the same.
+use Rattle.std.specs.Prelude.{if◌then◌else◌}
 use mathlib.Core.Path.{◌≡◌, refl, sym, ap, ◌∙◌}
 use mathlib.Core.Logic.{◌≢◌, ◌⊎◌, inl, inr}
 use mathlib.Core.Bool.{Bool, true, false}
@@ -8,7 +9,7 @@ use native.Mathlib.Omega.{arith}
 use native.Mathlib.Decide.{ℕ_discrete}
 use lib.Dec.{T}
 use lib.ListN.{length}
-use Rattle.rules.specs.Notation.{if◌then◌else◌, along, sum, up_to, keep}
+use Rattle.rules.specs.Notation.{along, sum, up_to, keep}
 use Rattle.rules.proofs.Laws.Lists.{In, NoDup, all-at, all_of, in_left, in_right, in_parts, in_cut}
 
 module _ {A : Type 0} (f : A → ℕ) where

@@ -1,9 +1,10 @@
 -- The tests of the rules decide what they name.
+use Rattle.std.specs.Prelude.{◌==◌}
 use mathlib.Core.Path.{◌≡◌, refl, subst}
 use mathlib.Core.Bool.{Bool, true, false, ◌&&◌, not}
 use Prim.Native.Nat.{ℕ, ◌≤◌}
 use lib.Dec.{T, leb→le, le→leb, eqb→eq, eqb_refl}
-use Rattle.rules.specs.Notation.{◌==◌, ◌≤?◌}
+use Rattle.rules.specs.Notation.{◌≤?◌}
 use Rattle.rules.specs.Calls.{Is}
 
 -- from truth of the test and back

@@ -1,4 +1,5 @@
 -- Ticket 6: the columns of sizes and totals. A total is the sum of the sizes of the slots of its class; once for every call that puts in, takes out, joins or moves.
+use Rattle.std.specs.Prelude.{if◌then◌else◌}
 use mathlib.Core.Path.{◌≡◌, refl, sym, ap, ◌∙◌, subst}
 use mathlib.Core.Logic.{◌≢◌, inl, inr}
 use mathlib.Core.Bool.{Bool, true, false}
@@ -8,7 +9,7 @@ use native.Mathlib.Nat.{mul-le-mul_right}
 use native.Mathlib.Omega.{arith}
 use native.Mathlib.Decide.{ℕ_discrete}
 use lib.ListN.{length}
-use Rattle.rules.specs.Notation.{if◌then◌else◌, ◌≤?◌, sum, along, up_to}
+use Rattle.rules.specs.Notation.{◌≤?◌, sum, along, up_to}
 use Rattle.rules.specs.Tables.{most_slots, most_bytes, total_bound, sized}
 use Rattle.rules.specs.Calls.{Is}
 use Rattle.rules.proofs.Laws.Tests.{le_is}

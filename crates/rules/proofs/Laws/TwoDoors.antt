@@ -1,9 +1,9 @@
 -- The host's door before a call on two tables: what its tests make of the outcome, and what the outcome tells of them (Tickets 10 and 12).
+use Rattle.std.specs.Prelude.{if◌then◌else◌}
 use mathlib.Core.Path.{◌≡◌, refl, sym, ◌∙◌}
 use mathlib.Core.Logic.{◌≢◌}
 use mathlib.Core.Bool.{Bool, true, false, true≢false}
 use Rattle.rules.specs.declared.Refusal.TheVariants.{Shape, Unsound}
-use Rattle.rules.specs.Notation.{if◌then◌else◌}
 use Rattle.rules.specs.Tables.{State}
 use Rattle.rules.specs.Refusals.{shaped}
 use Rattle.rules.specs.Calls.{Is}

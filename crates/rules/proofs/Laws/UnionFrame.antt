@@ -1,4 +1,5 @@
 -- Union's frame theorem: what it rewrites, how often, and that no third run is touched.
+use Rattle.std.specs.Prelude.{◌==◌}
 use mathlib.Core.Path.{◌≡◌, refl, sym, ap, ◌∙◌}
 use mathlib.Core.Logic.{◌≢◌}
 use mathlib.Core.Bool.{Bool, not}
@@ -8,7 +9,7 @@ use native.Mathlib.Omega.{arith}
 use native.Mathlib.Decide.{ℕ_discrete}
 use lib.ListN.{length, length-map}
 use Rattle.rules.specs.declared.Key.{Key}
-use Rattle.rules.specs.Notation.{◌==◌, up_to}
+use Rattle.rules.specs.Notation.{up_to}
 use Rattle.rules.specs.Tables.{frame_width, header_width, cell, class_of, State}
 use Rattle.rules.specs.Runs.{joined}
 use Rattle.rules.specs.Calls.{Ready}

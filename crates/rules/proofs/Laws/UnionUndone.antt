@@ -1,4 +1,5 @@
 -- THE LAWS of undo, call by call: after an accepted union it gives back the state before it, exactly; the same union can then be made again, with the same answer and state; and no frame is gained or lost.
+use Rattle.std.specs.Prelude.{if◌then◌else◌, ◌==◌}
 use mathlib.Core.Path.{◌≡◌, refl, sym, ap, ◌∙◌}
 use mathlib.Core.Logic.{◌≢◌}
 use mathlib.Core.Bool.{Bool, false, ◌&&◌, ◌||◌, not}
@@ -11,7 +12,7 @@ use Rattle.rules.specs.declared.Memory.{Memory}
 use Rattle.rules.specs.declared.Cause.TheVariants.{NoSlot, FreeSlot, OtherGeneration}
 use Rattle.rules.specs.declared.Found.{Found}
 use Rattle.rules.specs.declared.Found.TheVariants as lookup
-use Rattle.rules.specs.Notation.{if◌then◌else◌, ◌==◌, ◌≤?◌, ◌<?◌}
+use Rattle.rules.specs.Notation.{◌≤?◌, ◌<?◌}
 use Rattle.rules.specs.Tables
 use Rattle.rules.specs.Tables.{State, with_undo, forgetting, generation_of, payload_of, bytes_of, elem_side, found}
 use Rattle.rules.specs.Refusals.{Ruling, refuse, accept, answer, Outcome, outcome}

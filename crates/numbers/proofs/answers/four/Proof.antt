@@ -1,5 +1,5 @@
 use Rattle.rules.specs.declared.Done.{Done}
-use Rattle.rules.specs.Answers.{saidOld}
+use Rattle.rules.specs.Answers.{said_old}
 use Rattle.numbers.proofs.Told.{accepted, refused}
 use mathlib.Core.Path.{ap}
 use borrow.Author.Rules.{rules}
@@ -16,10 +16,10 @@ result-of-requires : tie.Need-result-of-requires
 result-of-requires c κs = search rules
 
 returns : tie.Need-returns
-returns c = accepted _ _ _ _ _ (ap (λ (a : Done). saidOld a c.before.before.args.old) c.enum_told.given.1)
+returns c = accepted _ _ _ _ _ (ap (λ (a : Done). said_old a c.before.before.args.old) c.enum_told.given.1)
 
 returns-2 : tie.Need-returns-2
-returns-2 c = refused _ _ c.before.before.answer.given.0.0 _ _ _ _ (ap (λ (a : Done). saidOld a c.before.before.before.before.args.old) c.before.before.answer.given.1) c.result-of.ensures
+returns-2 c = refused _ _ c.before.before.answer.given.0.0 _ _ _ _ (ap (λ (a : Done). said_old a c.before.before.before.before.args.old) c.before.before.answer.given.1) c.result-of.ensures
 
 pub four-spec : {M : Type 1} → statement M
 four-spec = tie.close (tie.spec enum_told enum-known-answer result-of-requires returns returns-2)

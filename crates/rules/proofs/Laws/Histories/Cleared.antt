@@ -1,4 +1,5 @@
 -- Fresh, clear and drain all leave empty tables and a history of no runs (Rules 2, 11 and 12).
+use Rattle.std.specs.Prelude.{if◌then◌else◌}
 use mathlib.Core.Path.{◌≡◌, refl, sym, ap}
 use mathlib.Core.Bool.{Bool, true, false}
 use mathlib.Core.List.{List, []}
@@ -6,7 +7,6 @@ use Prim.Native.Nat.{ℕ, ◌+◌, ◌*◌}
 use native.Mathlib.Omega.{arith}
 use Rattle.rules.specs.declared.Key.{Key}
 use Rattle.rules.specs.declared.Refusal.TheVariants.{Shape}
-use Rattle.rules.specs.Notation.{if◌then◌else◌}
 use Rattle.rules.specs.Tables.{frame_width, State}
 use Rattle.rules.specs.Sound.{both_fit}
 use Rattle.rules.specs.Refusals.{Ruling, refuse, answer, outcome}

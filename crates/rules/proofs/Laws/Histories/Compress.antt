@@ -1,4 +1,5 @@
 -- The new keys of canonical compression (Rules 14): the order of the runs by lowest slot, each from there, is that of the tables.
+use Rattle.std.specs.Prelude.{if◌then◌else◌, ◌==◌}
 use mathlib.Core.Path.{◌≡◌, refl, sym, ap, ◌∙◌, subst}
 use mathlib.Core.Logic.{◌≢◌, inl, inr}
 use mathlib.Core.Bool.{Bool}
@@ -8,7 +9,7 @@ use native.Mathlib.Omega.{arith}
 use native.Mathlib.Decide.{ℕ_discrete}
 use lib.ListN.{length}
 use Rattle.rules.specs.declared.Key.{Key}
-use Rattle.rules.specs.Notation.{if◌then◌else◌, ◌==◌, along, flat}
+use Rattle.rules.specs.Notation.{along, flat}
 use Rattle.rules.specs.Tables.{State, size_at}
 use Rattle.rules.specs.Drains.{ring}
 use Rattle.rules.specs.Compress.{canonical_frames, canonical_classes, place_of, renumbered_in, generation_after}

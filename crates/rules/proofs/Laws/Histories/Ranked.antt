@@ -1,4 +1,5 @@
 -- The new keys of the compression that keeps the slot order (Ticket 3): every frame's slot becomes its number among the frames, from the history alone.
+use Rattle.std.specs.Prelude.{if◌then◌else◌}
 use mathlib.Core.Path.{◌≡◌, refl, sym, ap, ◌∙◌, subst}
 use mathlib.Core.Logic.{◌≢◌}
 use mathlib.Core.Bool.{Bool, true, false}
@@ -6,7 +7,7 @@ use mathlib.Core.List.{List, [], ◌∷◌, map}
 use Prim.Native.Nat.{ℕ, suc, ◌≤◌}
 use lib.ListN.{length}
 use Rattle.rules.specs.declared.Key.{Key}
-use Rattle.rules.specs.Notation.{◌≤?◌, flat, keep, if◌then◌else◌}
+use Rattle.rules.specs.Notation.{◌≤?◌, flat, keep}
 use Rattle.rules.specs.Tables.{State, elem_side, shared_side}
 use Rattle.rules.specs.Calls.{Ready, compress_with}
 use Rattle.rules.specs.Compress.{place_of, live_slots, renumbered, generation_after}

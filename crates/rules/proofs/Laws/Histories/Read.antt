@@ -1,4 +1,5 @@
 -- A read that is accepted is a fresh call that puts the frames of the file in (Ticket 11).
+use Rattle.std.specs.Prelude.{if◌then◌else◌}
 use mathlib.Core.Path.{◌≡◌, refl, sym, ap, ◌∙◌, subst}
 use mathlib.Core.Logic.{◌≢◌, inl, inr}
 use mathlib.Core.Bool.{Bool, true, false}
@@ -7,7 +8,7 @@ use Prim.Native.Nat.{ℕ, zero, suc, ◌+◌, ◌-◌, ◌≤◌, ◌<◌}
 use native.Mathlib.Omega.{arith}
 use lib.ListN.{length, get_or, length-map}
 use Rattle.rules.specs.declared.Key.{Key}
-use Rattle.rules.specs.Notation.{if◌then◌else◌, along, flat}
+use Rattle.rules.specs.Notation.{along, flat}
 use Rattle.rules.specs.Tables.{most_slots, State}
 use Rattle.rules.specs.Calls.{Is}
 use Rattle.rules.specs.RunFile.{StoredFrame, StoredRun, frame_count}

@@ -1,4 +1,5 @@
 -- Sorting runs by lowest slot (Rules 14) writes the history in another way; where no two have one lowest slot, the lowest slots rise.
+use Rattle.std.specs.Prelude.{if◌then◌else◌}
 use mathlib.Core.Path.{◌≡◌}
 use mathlib.Core.Logic.{◌≢◌}
 use mathlib.Core.Bool.{Bool, true, false}
@@ -6,7 +7,7 @@ use mathlib.Core.List.{List, [], ◌∷◌, map, foldr}
 use Prim.Native.Nat.{ℕ, suc, ◌≤◌, ◌<◌}
 use native.Mathlib.Omega.{arith}
 use Rattle.rules.specs.declared.Key.{Key}
-use Rattle.rules.specs.Notation.{if◌then◌else◌, ◌<?◌}
+use Rattle.rules.specs.Notation.{◌<?◌}
 use Rattle.rules.specs.Calls.{Is}
 use Rattle.rules.specs.History.{lowest_of, sorted}
 use Rattle.rules.proofs.Laws.Tests.{le_is}
