@@ -98,14 +98,6 @@ fed {block} {q = q} f l =
           record { gone = d.gone; handed = d.handed; follows = rw e at d.follows };
     }
 
--- five slices keep their lengths over a loop
-pub record Lengths (elems₀ shared₀ keys₀ out₀ line₀ elems shared keys out line : List ℕ) : Type 0 where
-  pub first : length elems ≡ length elems₀
-  pub second : length shared ≡ length shared₀
-  pub third : length keys ≡ length keys₀
-  pub fourth : length out ≡ length out₀
-  pub fifth : length line ≡ length line₀
-
 -- ---- the whole input
 
 -- of some input, all was read, and what was printed and handed over is what Script says

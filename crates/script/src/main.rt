@@ -10,6 +10,7 @@ ghost use Rattle.blocks.specs.Progress.{Working, Doing, Ran};
 
 use blocks::{Progress, answer, feed};
 use rules::{BLANK, Head, Pool};
+use std::io::{Stdin, Stdout};
 use stdio::Sent;
 
 // Script: the capacity of both tables.
@@ -35,6 +36,7 @@ fn fresh_head() -> Head
 
 // The end of the input: the last line may lack its newline. What then stands in `out` is handed to the writer.
 fn finish(
+    to: Stdout,
     p: Progress,
     elems: &mut [u64],
     shared: &mut [u64],
@@ -48,16 +50,18 @@ fn finish(
     if p.held == 0 {
         let sent = p.sent;
         let fill = p.fill;
-        return stdio::send(sent, &out[..fill]);
+        return stdio::send(to, sent, &out[..fill]);
     }
-    let q = answer(p, elems, shared, keys, out, line);
+    let q = answer(to, p, elems, shared, keys, out, line);
     let sent = q.sent;
     let fill = q.fill;
-    stdio::send(sent, &out[..fill])
+    stdio::send(to, sent, &out[..fill])
 }
 
 // A proved loop has to end, and nothing says that an input does: the loop counts its turns down, from a number that no run uses up.
 fn run(
+    from: Stdin,
+    to: Stdout,
     elems: &mut [u64],
     shared: &mut [u64],
     keys: &mut [u64],
@@ -77,17 +81,17 @@ fn run(
     };
     let mut turns = u64::MAX;
     while turns > 0 {
-        let n = stdio::receive(block);
+        let n = stdio::receive(from, block);
         if n == 0 {
             break;
         }
-        p = feed(p, elems, shared, keys, out, line, &block[..n]);
+        p = feed(to, p, elems, shared, keys, out, line, &block[..n]);
         turns -= 1;
     }
-    finish(p, elems, shared, keys, out, line)
+    finish(to, p, elems, shared, keys, out, line)
 }
 
-fn main() {
+fn main(rt: HostRuntime) {
     let mut elems = [0u64; 3072];
     let mut shared = [0u64; 2560];
     let mut keys = [0u64; 1024];
@@ -95,6 +99,8 @@ fn main() {
     let mut block = [0u8; 65536];
     let mut line = [0u8; 128];
     run(
+        rt.stdin(),
+        rt.stdout(),
         &mut elems,
         &mut shared,
         &mut keys,

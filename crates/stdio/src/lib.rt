@@ -4,7 +4,7 @@
 ghost use Rattle.std.specs.Prelude.{◌≡◌, ℕ, ◌≤◌, List, [], ◌++◌, length, take};
 ghost use Rattle.stdio.specs.Handed.{Handed};
 
-use libc::{STDIN_FILENO, STDOUT_FILENO};
+use std::io::{Read, Stdin, Stdout};
 
 // How many bytes went to the writer. No other crate can make one: it begins at none, and only `send` adds to it.
 #[derive(Drop)]
@@ -19,17 +19,20 @@ pub fn nothing_sent() -> Sent
 }
 
 // Bytes are handed to the writer. What becomes of them there, and whether the write fails, no contract of the kit says.
-pub fn send(sent: Sent, bytes: &[u8]) -> Sent
+pub fn send(to: Stdout, sent: Sent, bytes: &[u8]) -> Sent
     ensures { (gone : List ℕ) → Handed sent gone → Handed result (gone ++ bytes.now) }
 {
-    io::write_all(STDOUT_FILENO, bytes);
+    let _ = to.write_all(bytes);
     let count = std::num::wrapping_add_u64(sent.count, bytes.len() as u64);
     Sent { count }
 }
 
 // How many bytes of the input came into the block: none at its end, or where the read fails.
-pub fn receive(block: &mut [u8]) -> usize
+pub fn receive(mut from: Stdin, block: &mut [u8]) -> usize
     ensures { (result ≤ length block.new) × (result ≡ length (take result block.new)) }
 {
-    io::count(libc::read(STDIN_FILENO, block), block)
+    match from.read(block) {
+        Ok(n) => n,
+        Err(_) => 0,
+    }
 }
