@@ -1,5 +1,5 @@
 -- What Script prints of an answer, which goes by what is said and by the lent buffer alone.
-use Rattle.std.specs.Prelude.{ℕ, ◌*◌, ◌≤◌, ◌≡◌, Bool, List, [], ◌∷◌, map, length, get_or, drop, if◌then◌else◌, ◌==◌}
+use Rattle.std.specs.Prelude.{ℕ, ◌*◌, ◌≤◌, ◌≡◌, List, [], ◌∷◌, map, length, get_or, if◌then◌else◌, ◌==◌}
 use Rattle.rules.specs.declared.Rest.{Rest}
 use Rattle.rules.specs.Notation.{flat}
 use Rattle.rules.specs.Refusals.{Said, Outcome}
