@@ -1,16 +1,15 @@
 -- A line gathered from a block: its bytes are kept while there is room, up to a newline.
-use Prim.Native.Nat.{ℕ, zero, suc, ◌+◌, ◌≤◌, ◌<◌}
+use Prim.Native.Nat.{ℕ, ◌+◌, ◌≤◌, ◌<◌}
 use mathlib.Core.Path.{◌≡◌, refl, sym, ap, ◌∙◌}
 use mathlib.Core.Bool.{true, false}
 use mathlib.Core.List.{List, [], ◌∷◌, ◌++◌, append_assoc, append-nil}
 use native.Mathlib.Decide.{dec_lt}
 use native.Mathlib.Numerals.{add-one}
 use native.Mathlib.Omega.{arith}
-use lib.ListN.{length, get_or, take, drop, set, length-set, length-append}
+use lib.ListN.{length, get_or, take, set, length-set, length-append}
 use lib.Seq.{slice, slice_empty, take_all, take-append-le, take-suc-set, length-take-le}
 use Rattle.rules.specs.Script.{newline}
 use Rattle.words.proofs.Pieces.{slice-suc, Within, within-start, within-next, within_separator, within-last}
-use Rattle.lines.specs.declared.stream.Gathered.{Gathered}
 use Rattle.lines.specs.Stream.{Holds, Keeps, Gathers}
 
 -- ---- a byte more

@@ -1,8 +1,8 @@
 -- The whole input as it comes, block by block: what has been read and printed so far, in Script's terms.
-use Rattle.std.specs.Prelude.{ℕ, ◌+◌, ◌≤◌, ◌<◌, ◌≡◌, Bool, true, false, List, [], ◌∷◌, ◌++◌, length, take, drop, if◌then◌else◌}
+use Rattle.std.specs.Prelude.{ℕ, ◌≤◌, ◌<◌, ◌≡◌, false, List, [], ◌∷◌, ◌++◌, length, take, drop, if◌then◌else◌}
 use Rattle.rules.specs.Tables.{State}
 use Rattle.rules.specs.Slots.{empty}
-use Rattle.rules.specs.Script.{capacity, newline, pieces, line_reply, replies, output}
+use Rattle.rules.specs.Script.{capacity, newline, pieces, line_reply, replies}
 use Rattle.words.specs.Words.{onto}
 use Rattle.lines.specs.declared.stream.Gathered.{Gathered}
 
