@@ -8,7 +8,6 @@ ghost use Rattle.lines.specs.Obeys.{reply_most};
 ghost use Rattle.blocks.specs.Progress.{Working, Room, Answered, Advanced, Fed};
 
 use rules::Head;
-use std::io::Stdout;
 use stdio::Sent;
 
 // The most bytes of a reply with its newline; in the rules of lines, reply_most.
@@ -32,12 +31,12 @@ pub struct Place {
 }
 
 // Room for a reply: where there is none, what stands in `out` is written first.
-fn make_room(to: Stdout, out: &[u8], fill: usize, sent: Sent) -> Place
+fn make_room(out: &[u8], fill: usize, sent: Sent) -> Place
     requires { (fill ≤ length out.now) × (reply_most ≤ length out.now) }
     ensures { Room out.now fill sent result }
 {
     if out.len() - fill < REPLY_MOST {
-        let sent = stdio::send(to, sent, &out[..fill]);
+        let sent = stdio::send(sent, &out[..fill]);
         return Place { at: 0, sent };
     }
     Place { at: fill, sent }
@@ -45,7 +44,6 @@ fn make_room(to: Stdout, out: &[u8], fill: usize, sent: Sent) -> Place
 
 // The line that is held, obeyed.
 pub fn answer(
-    to: Stdout,
     p: Progress,
     elems: &mut [u64],
     shared: &mut [u64],
@@ -59,7 +57,7 @@ pub fn answer(
     let head = p.head;
     let held = p.held;
     let sent = p.sent;
-    let place = make_room(to, out, p.fill, sent);
+    let place = make_room(out, p.fill, sent);
     let o = lines::obey_bytes(head, elems, shared, keys, out, place.at, &line[..held]);
     let head = o.head;
     let sent = place.sent;
@@ -74,7 +72,6 @@ pub fn answer(
 
 // A line or a part of one is taken from the block; a whole line is obeyed.
 fn advance(
-    to: Stdout,
     p: Progress,
     elems: &mut [u64],
     shared: &mut [u64],
@@ -97,14 +94,13 @@ fn advance(
         sent,
     };
     if g.whole {
-        return answer(to, q, elems, shared, keys, out, line);
+        return answer(q, elems, shared, keys, out, line);
     }
     q
 }
 
 // A block of the input.
 pub fn feed(
-    to: Stdout,
     p: Progress,
     elems: &mut [u64],
     shared: &mut [u64],
@@ -119,7 +115,7 @@ pub fn feed(
     let mut q = p;
     q.at = 0;
     while q.at < block.len() {
-        q = advance(to, q, elems, shared, keys, out, line, block);
+        q = advance(q, elems, shared, keys, out, line, block);
     }
     q
 }

@@ -36,7 +36,6 @@ fn fresh_head() -> Head
 
 // The end of the input: the last line may lack its newline. What then stands in `out` is handed to the writer.
 fn finish(
-    to: Stdout,
     p: Progress,
     elems: &mut [u64],
     shared: &mut [u64],
@@ -50,12 +49,12 @@ fn finish(
     if p.held == 0 {
         let sent = p.sent;
         let fill = p.fill;
-        return stdio::send(to, sent, &out[..fill]);
+        return stdio::send(sent, &out[..fill]);
     }
-    let q = answer(to, p, elems, shared, keys, out, line);
+    let q = answer(p, elems, shared, keys, out, line);
     let sent = q.sent;
     let fill = q.fill;
-    stdio::send(to, sent, &out[..fill])
+    stdio::send(sent, &out[..fill])
 }
 
 // A proved loop has to end, and nothing says that an input does: the loop counts its turns down, from a number that no run uses up.
@@ -77,7 +76,7 @@ fn run(
         fill: 0,
         held: 0,
         at: 0,
-        sent: stdio::nothing_sent(),
+        sent: stdio::nothing_sent(to),
     };
     let mut turns = u64::MAX;
     while turns > 0 {
@@ -85,10 +84,10 @@ fn run(
         if n == 0 {
             break;
         }
-        p = feed(to, p, elems, shared, keys, out, line, &block[..n]);
+        p = feed(p, elems, shared, keys, out, line, &block[..n]);
         turns -= 1;
     }
-    finish(to, p, elems, shared, keys, out, line)
+    finish(p, elems, shared, keys, out, line)
 }
 
 fn main(rt: HostRuntime) {

@@ -6,25 +6,27 @@ ghost use Rattle.stdio.specs.Handed.{Handed};
 
 use std::io::{Read, Stdin, Stdout};
 
-// How many bytes went to the writer. No other crate can make one: it begins at none, and only `send` adds to it.
+// The writer, and how many bytes went to it. Its fields are this crate's own: it begins at none, and only `send` writes and adds to it.
 #[derive(Drop)]
 pub struct Sent {
+    to: Stdout,
     count: u64,
 }
 
-pub fn nothing_sent() -> Sent
+pub fn nothing_sent(to: Stdout) -> Sent
     ensures { Handed result [] }
 {
-    Sent { count: 0 }
+    Sent { to, count: 0 }
 }
 
 // Bytes are handed to the writer. What becomes of them there, and whether the write fails, no contract of the kit says.
-pub fn send(to: Stdout, sent: Sent, bytes: &[u8]) -> Sent
+pub fn send(sent: Sent, bytes: &[u8]) -> Sent
     ensures { (gone : List ℕ) → Handed sent gone → Handed result (gone ++ bytes.now) }
 {
+    let to = sent.to;
     let _ = to.write_all(bytes);
     let count = std::num::wrapping_add_u64(sent.count, bytes.len() as u64);
-    Sent { count }
+    Sent { to, count }
 }
 
 // How many bytes of the input came into the block: none at its end, or where the read fails.
