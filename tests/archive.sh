@@ -4,7 +4,13 @@ set -eu
 cd "$(dirname "$0")/.."
 if [ -n "${DOORSEDGE_MOCK:-}" ]; then
     echo "--features mock"
-elif [ ! -f "${DOORSEDGE_ARCHIVE:-target/staticlib}/libhost.a" ]; then
-    echo "target/staticlib/libhost.a is missing: tools/archive (DOORSEDGE_MOCK=1 does without)" >&2
-    tools/archive
+elif [ -z "${DOORSEDGE_ARCHIVE:-}" ]; then
+    archive=target/staticlib/libhost.a
+    if [ ! -f "$archive" ] || [ -n "$(find crates.txt crates/*/src crates/*/specs crates/*/proofs -newer "$archive" -print | head -n 1)" ]; then
+        echo "$archive is missing or older than the crates: tools/archive (DOORSEDGE_MOCK=1 does without)" >&2
+        tools/archive
+    fi
+elif [ ! -f "$DOORSEDGE_ARCHIVE/libhost.a" ]; then
+    echo "$DOORSEDGE_ARCHIVE/libhost.a is missing" >&2
+    exit 1
 fi
