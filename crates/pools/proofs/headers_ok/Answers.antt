@@ -49,8 +49,8 @@ loop-i-preserved-then-count-eq0 c =
     let l = c.loop-i in
     let s = c.args.s.now in
     let z : cell header_width s 0 (l.i + 1) ≡ 0 = sym c.get-count.ensures ∙ c.if-count-eq0.true in
-    let m = marked s (l.i + 1) c.get-count.ensures c.get-mark.ensures c.if-mark-gt1.false c.if-count-mark.false in
-    (omega (arith, c.loop-i-test.true), below_more _ _ l.invariant.1 (record { free = λ _. (sym c.get.ensures ∙ c.if-get-ne0.false, sym c.get-then-count-eq0.ensures ∙ c.if-get-ne0-2.false); live = λ u. absurd (u z); mark = m }))
+    let of_free = marked s (l.i + 1) c.get-count.ensures c.get-mark.ensures c.if-mark-gt1.false c.if-count-mark.false in
+    (omega (arith, c.loop-i-test.true), below_more _ _ l.invariant.1 (record { free = λ _. (sym c.get.ensures ∙ c.if-get-ne0.false, sym c.get-then-count-eq0.ensures ∙ c.if-get-ne0-2.false); live = λ u. absurd (u z); mark = of_free }))
 
 pub get-requires-in-loop-i : goal.get-requires-in-loop-i
 get-requires-in-loop-i c = omega arith
@@ -66,8 +66,8 @@ loop-i-preserved c =
     let l = c.loop-i in
     let s = c.args.s.now in
     let u : cell header_width s 0 (l.i + 1) ≢ 0 = λ z. c.if-count-eq0.false (c.get-count.ensures ∙ z) in
-    let m = marked s (l.i + 1) c.get-count.ensures c.get-mark.ensures c.if-mark-gt1.false c.if-count-mark.false in
-    (omega (arith, c.loop-i-test.true), below_more _ _ l.invariant.1 (record { free = λ z. absurd (u z); live = λ _. sym c.get-in-loop-i.ensures ∙ c.if-get-ne0-3.false; mark = m }))
+    let of_live = marked s (l.i + 1) c.get-count.ensures c.get-mark.ensures c.if-mark-gt1.false c.if-count-mark.false in
+    (omega (arith, c.loop-i-test.true), below_more _ _ l.invariant.1 (record { free = λ z. absurd (u z); live = λ _. sym c.get-in-loop-i.ensures ∙ c.if-get-ne0-3.false; mark = of_live }))
 
 pub returns : goal.returns
 returns c = λ k h. c.loop-i.invariant.1 k (omega (arith, c.loop-i-test.false))
