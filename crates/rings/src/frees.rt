@@ -16,13 +16,11 @@ fn free_ring(head: Head, elems: &mut [u64], n: u64, x: u64) -> Head
     ensures { (s : List ℕ) → state_of result elems.new s ≡ free_ring n (state_of head elems.old s) x }
 {
     let mut next = head;
-    let mut left = n;
     let mut at = x;
-    while 0 < left {
+    for _ in 0..n {
         let after = slots::get(elems, FRAME, NEXT, at);
         next = slots::free_frame(next, elems, at);
         at = after;
-        left = left - 1;
     }
     next
 }

@@ -25,6 +25,7 @@ pub fn size_at(head: Head, elems: &[u64], shared: &[u64], x: u64) -> u64
 }
 
 // A key is written at a place, counted from 1.
+#[tactic(auto, using(slots::proofs::Places::row_puts))]
 fn write_key(out: &mut [u64], place: u64, slot: u64, generation: u64)
     requires { Within key_width out.old place }
     ensures { out.new ≡ row key_width out.old place (slot ∷ generation ∷ []) }
@@ -38,15 +39,11 @@ fn write_keys(elems: &[u64], n: u64, x: u64, out: &mut [u64])
     requires { Along elems.now n x × (n * key_width ≤ length out.old) }
     ensures { out.new ≡ sets out.old 0 (keys_along elems.now n x) }
 {
-    let mut left = n;
     let mut at = x;
-    let mut written: u64 = 0;
-    while 0 < left {
+    for written in 0..n {
         let generation = slots::get(elems, FRAME, GENERATION, at);
         write_key(out, written + 1, at, generation);
         at = slots::get(elems, FRAME, NEXT, at);
-        written = written + 1;
-        left = left - 1;
     }
 }
 
