@@ -7,15 +7,14 @@ use native.Mathlib.Omega.{arith}
 use lib.ListN.{length}
 use Rattle.rules.specs.declared.Head.{Head}
 use Rattle.rules.specs.declared.Key.{Key}
-use Rattle.rules.specs.declared.Raised.{Raised}
-use Rattle.rules.specs.declared.Number.TheVariants.{Is}
-use Rattle.rules.specs.declared.Found.TheVariants as lookup
+use Rattle.std.specs.Prelude.{Ok, Err, ⊤}
+use Rattle.rules.specs.declared.Step.{Step}
 use Rattle.rules.specs.declared.Cause.{Cause}
 use Rattle.rules.specs.declared.Refusal.TheVariants.{Dead}
 use Rattle.rules.specs.Tables.{last_generation, frame_width, class_of, next_of, count_of, value_of, State, state_of, with_generation, found, size_at}
 use Rattle.rules.specs.Refusals.{outcome, refuse}
 use Rattle.rules.specs.Slots.{freed, free_element, free_shared, raised, raise, overflows}
-use Rattle.rules.specs.Answers.{after_number}
+use Rattle.rules.specs.Answers.{one_value, after}
 use Rattle.rules.specs.Drains.{free_ring, remove_shared}
 use Rattle.rules.specs.Calls.{Ready, step}
 use Rattle.rules.specs.Calls as calls
@@ -116,10 +115,10 @@ module _ (st : State) (n x class : ℕ) (emptied : Head) (e : List ℕ) (ring : 
     freed-generation = ap (λ (t : State). t.head.generation) header ∙ ap (λ (t : State). t.head.generation) ring ∙ (free_ring-head n st x).1
 
     -- all steps of the call, one after another
-    pub ring-removed : (k : Key) (value : ℕ) (r : Raised) → found st k ≡ lookup.Live x
+    pub ring-removed : (k : Key) (value : ℕ) (r : Step ⊤) → found st k ≡ Ok x
         → class ≡ class_of st.elems x → n ≡ count_of st.shared class → value ≡ value_of st.shared class
-        → r ≡ record { head = with_generation freed (raised freed.generation); over = freed.generation == last_generation }
-        → after_number (record { head = r.head; answer = Is value; over = r.over }) e s [] ≡ step st [] (calls.remove_shared k)
+        → r ≡ record { head = with_generation freed (raised freed.generation); answer = tt; over = freed.generation == last_generation }
+        → after one_value st.head (Ok (record { head = r.head; answer = value; over = r.over })) e s [] ≡ step st [] (calls.remove_shared k)
     unfolding remove_shared raise overflows
     ring-removed k value r live c size v up =
         let sized : n ≡ size_at st x = size ∙ ap (count_of st.shared) c in
@@ -127,6 +126,6 @@ module _ (st : State) (n x class : ℕ) (emptied : Head) (e : List ℕ) (ring : 
         let gone : state_of freed e s ≡ free_shared (free_ring (size_at st x) st x) (class_of st.elems x) = rw (← sized, ← c, ← ring) header in
         simp live (rw (up, valued, ← gone, freed-generation))
 
-pub remove_shared-3 : (st : State) (k : Key) {cause : Cause} → found st k ≡ lookup.Dead cause → outcome st [] (refuse (Dead cause)) ≡ step st [] (calls.remove_shared k)
+pub remove_shared-3 : (st : State) (k : Key) {cause : Cause} → found st k ≡ Err cause → outcome st [] (refuse (Dead cause)) ≡ step st [] (calls.remove_shared k)
 unfolding remove_shared
 remove_shared-3 st k p = simp p

@@ -8,7 +8,7 @@ use native.Mathlib.Omega.{arith}
 use lib.ListN.{length}
 use lib.Seq.{sets}
 use Rattle.rules.specs.declared.Key.{Key}
-use Rattle.rules.specs.declared.Found.TheVariants as lookup
+use Rattle.std.specs.Prelude.{Ok, Err}
 use Rattle.rules.specs.declared.Cause.{Cause}
 use Rattle.rules.specs.declared.Refusal.TheVariants.{Dead, Short}
 use Rattle.std.proofs.Common.{add-one}
@@ -51,11 +51,11 @@ places_next w place wide e t x k =
 
 -- list, by its three ways
 module _ (st : State) (lent : List ℕ) (k : Key) where
-  pub list_3 : {cause : Cause} → found st k ≡ lookup.Dead cause → outcome st lent (refuse (Dead cause)) ≡ step st lent (calls.list k)
+  pub list_3 : {cause : Cause} → found st k ≡ Err cause → outcome st lent (refuse (Dead cause)) ≡ step st lent (calls.list k)
   unfolding list
   list_3 = written_3 st lent k key_width (λ x. st) (λ x. keys_along st.elems (size_at st x) x)
 
-  module _ (x : ℕ) (live : found st k ≡ lookup.Live x) where
+  module _ (x : ℕ) (live : found st k ≡ Ok x) where
     pub list_7 : length lent < size_at st x * key_width → outcome st lent (refuse Short) ≡ step st lent (calls.list k)
     unfolding list
     list_7 = written_7 st lent k key_width (λ x. st) (λ x. keys_along st.elems (size_at st x) x) x live

@@ -5,12 +5,12 @@ ghost use Rattle.rules.specs.Tables.{row, state_of, size_at};
 ghost use Rattle.rules.specs.Drains.{key_width};
 ghost use Rattle.rules.specs.Calls as calls;
 ghost use Rattle.rules.specs.Calls.{Ready, step};
-ghost use Rattle.rules.specs.Answers.{leaves, said_number};
+ghost use Rattle.rules.specs.Answers.{one_value, leaves, said};
 ghost use Rattle.slots.specs.Asked.{Within, Along};
 ghost use Rattle.slots.specs.Asked.{OnLive};
 ghost use Rattle.rings.specs.Answered.{keys_along};
 
-use rules::{CLASS, COUNT, FRAME, Found, GENERATION, HEADER, Head, Key, NEXT, Number, Refusal};
+use rules::{CLASS, COUNT, FRAME, GENERATION, HEADER, Head, Key, NEXT, Refusal};
 
 // Numbers to a place of a list (docs/LAYOUT.md); in the rules, key_width.
 pub const KEY_WIDTH: u64 = 2;
@@ -48,18 +48,21 @@ fn write_keys(elems: &[u64], n: u64, x: u64, out: &mut [u64])
 }
 
 // The keys of the run, in ring order from the given one.
-pub fn list(head: Head, elems: &[u64], shared: &[u64], key: Key, out: &mut [u64]) -> Number
+pub fn list(
+    head: Head,
+    elems: &[u64],
+    shared: &[u64],
+    key: Key,
+    out: &mut [u64],
+) -> Result<u64, Refusal>
     requires { Ready (state_of head elems.now shared.now) }
-    ensures { leaves head elems.now shared.now out.new (said_number result false) ≡ step (state_of head elems.now shared.now) out.old (calls.list key) }
+    ensures { leaves head elems.now shared.now out.new (said one_value result) ≡ step (state_of head elems.now shared.now) out.old (calls.list key) }
 {
-    let x = match slots::find(head, elems, key) {
-        Found::Live(x) => x,
-        Found::Dead(cause) => return Number::Refused(Refusal::Dead(cause)),
-    };
+    let x = slots::find(head, elems, key)?;
     let size = size_at(head, elems, shared, x);
     if (out.len() as u64) < size * KEY_WIDTH {
-        return Number::Refused(Refusal::Short);
+        return Err(Refusal::Short);
     }
     write_keys(elems, size, x, out);
-    Number::Is(size)
+    Ok(size)
 }
