@@ -13,19 +13,6 @@ ghost use Rattle.wipes.specs.Wiped.{ZeroPast};
 use rules::{BLANK, Done, FRAME, HEADER, Head, HeadDone, Pool, Refusal};
 use shape::both_fit;
 
-// Rules 2 and 12: the first numbers of a table become 0.
-fn zero(t: &mut [u64], many: u64)
-    requires { many ≤ length t.old }
-    ensures { t.new ≡ replicate many 0 ++ drop many t.old }
-{
-    let end = many as usize;
-    let mut i = 0;
-    while i < end {
-        t[i] = 0;
-        i += 1;
-    }
-}
-
 // Rules 2 and 12: zero tables of so many slots, and the head over them; past the first `used` and `classed` slots they are zero already.
 pub fn blank(
     frames: u64,
@@ -39,8 +26,8 @@ pub fn blank(
     requires { ZeroPast frames frame_width used elems.old × ZeroPast headers header_width classed shared.old }
     ensures { state_of result elems.new shared.new ≡ empty frames headers generation }
 {
-    zero(elems, used * FRAME);
-    zero(shared, classed * HEADER);
+    elems[..(used * FRAME) as usize].fill(0);
+    shared[..(classed * HEADER) as usize].fill(0);
     Head {
         elems: empty_pool(frames),
         shared: empty_pool(headers),
