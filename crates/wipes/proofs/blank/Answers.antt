@@ -5,4 +5,4 @@ use Rattle.wipes.proofs.blank.Goals as goal
 
 pub returns : goal.returns
 unfolding empty
-returns c = rw (c.empty_pool.ensures, c.empty_pool-2.ensures, wiped frame_width _ _ _ c.requires.0 _ (c.fill.ensures.after (λ y e. e)), wiped header_width _ _ _ c.requires.1 _ (c.fill-2.ensures.after (λ y e. e)))
+returns c = rw (c.empty.ensures, c.empty-2.ensures, wiped frame_width _ _ _ c.requires.0 _ (c.fill.ensures.after (λ y e. e)), wiped header_width _ _ _ c.requires.1 _ (c.fill-2.ensures.after (λ y e. e)))
