@@ -2,13 +2,13 @@
 use mathlib.Core.Path.{◌≡◌}
 use mathlib.Core.Bool.{true, false}
 use mathlib.Core.List.{List}
-use Prim.Native.Nat.{ℕ, ◌*◌, ◌≤◌, ◌<◌}
+use Prim.Native.Nat.{ℕ, ◌≤◌, ◌<◌}
 use native.Mathlib.Omega.{arith}
 use Rattle.rules.specs.declared.Pool.{Pool}
 use Rattle.rules.specs.declared.HeadDone.{HeadDone}
 use Rattle.rules.specs.declared.Done.TheVariants as done
 use Rattle.rules.specs.declared.Refusal.TheVariants.{NoElement, NoShared}
-use Rattle.rules.specs.Tables.{most_slots, frame_width, header_width, frame_at, header_at, blank, State, state_of, elem_side, shared_side}
+use Rattle.rules.specs.Tables.{frame_width, header_width, frame_at, header_at, blank, State, elem_side, shared_side}
 use Rattle.rules.specs.Refusals.{shaped}
 use Rattle.rules.specs.Calls.{Ready}
 use Rattle.rules.specs.TwoTables.{after_target}

@@ -23,13 +23,11 @@ pub fn last(pool: Pool, t: &[u64], width: u64, used: u64) -> u64
     requires { Scannable pool width t.now used }
     ensures { (link : ℕ) → result ≡ last_live (side_of pool t.now width used link) }
 {
-    let mut slot = pool.extent;
-    while 0 < slot {
+    for slot in (1..=pool.extent).rev() {
         let live = get(t, width, used, slot);
         if live != 0 {
             return slot;
         }
-        slot = slot - 1;
     }
     0
 }
@@ -37,14 +35,12 @@ pub fn last(pool: Pool, t: &[u64], width: u64, used: u64) -> u64
 // The slot `place` becomes what `slot` is in the other table.
 pub fn copy_row(to: &mut [u64], place: u64, from: &[u64], slot: u64, width: u64)
     requires { Within width to.old place × Within width from.now slot }
-    ensures { Rowed width to.old place from.now slot width to.new }
+    ensures { Rowed width to.old place from.now slot to.new }
 {
-    let mut field: u64 = 0;
-    while field < width {
-        let value = get(from, width, field, slot);
-        put(to, width, place, field, value);
-        field += 1;
-    }
+    let size = width as usize;
+    let start = ((place - 1) * width) as usize;
+    let first = ((slot - 1) * width) as usize;
+    to[start..start + size].copy_from_slice(&from[first..first + size]);
 }
 
 // One slot: a live one is copied; a free one names the free one above it, and is answered.
@@ -84,11 +80,9 @@ pub fn copy_table(
     requires { Clonable capacity to.old (side_of pool from.now width used link) last }
     ensures { (result ≡ copied_pool capacity (side_of pool from.now width used link)) × (to.new ≡ copied_table capacity (side_of pool from.now width used link)) }
 {
-    let mut slot = last;
     let mut root: u64 = 0;
-    while 0 < slot {
+    for slot in (1..=last).rev() {
         root = copy_slot(to, from, width, used, link, slot, root);
-        slot = slot - 1;
     }
     zero(to, last * width, capacity * width);
     Pool {
