@@ -2,8 +2,7 @@
 // Ported from clone_from_with of surject_arena.rs (triple_arena 0.15.1, NOTICE).
 #![tactic(auto)]
 
-ghost use Rattle.std.specs.Prelude.{◌≡◌, true, false, ℕ, ◌≤◌, ◌<◌};
-ghost use Rattle.rules.specs.declared.Done.TheVariants as done;
+ghost use Rattle.std.specs.Prelude.{◌≡◌, true, ℕ, ◌≤◌, ◌<◌};
 ghost use Rattle.rules.specs.Tables.{most_slots, state_of};
 ghost use Rattle.rules.specs.Refusals.{shaped};
 ghost use Rattle.rules.specs.Calls.{Ready};
@@ -13,9 +12,7 @@ ghost use Rattle.slots.specs.Asked.{Within};
 ghost use Rattle.clones.specs.Clones.{side_of, Scannable, Rowed, CloneOne, Clonable};
 
 use copies::zero;
-use rules::{
-    BLANK, COUNT, Done, FRAME, GENERATION, HEADER, Head, HeadDone, NEXT, NEXT_FREE, Pool, Refusal,
-};
+use rules::{BLANK, COUNT, FRAME, GENERATION, HEADER, Head, NEXT, NEXT_FREE, Pool, Refusal, Step};
 use slots::{get, put};
 
 // The last live slot; 0 if there is none.
@@ -93,17 +90,6 @@ pub fn copy_table(
     }
 }
 
-// Refusals, below the table: nothing changes.
-pub fn refused(head: Head, why: Refusal) -> HeadDone
-    ensures { result ≡ record { head = head; answer = done.Refused why; over = false } }
-{
-    HeadDone {
-        head,
-        answer: Done::Refused(why),
-        over: false,
-    }
-}
-
 // Ticket 10: the live frames and headers of the source in their own slots of the target, whatever it held. At the inner door.
 pub fn clone_from(
     head: Head,
@@ -112,34 +98,31 @@ pub fn clone_from(
     source: Head,
     frames: &[u64],
     headers: &[u64],
-) -> HeadDone
+) -> Result<Step<()>, Refusal>
     requires { (shaped (state_of head elems.old shared.old) ≡ true) × Ready (state_of source frames.now headers.now) }
-    ensures { after_target result elems.new shared.new (state_of source frames.now headers.now) ≡ clone_step (state_of head elems.old shared.old) (state_of source frames.now headers.now) }
+    ensures { after_target head result elems.new shared.new (state_of source frames.now headers.now) ≡ clone_step (state_of head elems.old shared.old) (state_of source frames.now headers.now) }
 {
     let room = head.elems.capacity;
     let pool = source.elems;
     let top = last(pool, frames, FRAME, GENERATION);
     if room < top {
-        return refused(head, Refusal::NoElement);
+        return Err(Refusal::NoElement);
     }
     let places = head.shared.capacity;
     let classes = source.shared;
     let highest = last(classes, headers, HEADER, COUNT);
     if places < highest {
-        return refused(head, Refusal::NoShared);
+        return Err(Refusal::NoShared);
     }
     let copy = copy_table(room, elems, pool, frames, FRAME, GENERATION, NEXT, top);
     let copied = copy_table(
         places, shared, classes, headers, HEADER, COUNT, NEXT_FREE, highest,
     );
-    HeadDone {
-        head: Head {
-            elems: copy,
-            shared: copied,
-            generation: source.generation,
-            undo: BLANK,
-        },
-        answer: Done::Done,
-        over: false,
-    }
+    let next = Head {
+        elems: copy,
+        shared: copied,
+        generation: source.generation,
+        undo: BLANK,
+    };
+    Ok(Step::plain(next, ()))
 }
