@@ -6,10 +6,7 @@ ghost use Rattle.rules.specs.Tables.{state_of};
 ghost use Rattle.rules.specs.Sound as sound;
 ghost use Rattle.rules.specs.Refusals as refusals;
 
-use rules::{FRAME, HEADER, Head};
-
-// Tables: the highest capacity.
-const MOST: u64 = 65536;
+use rules::{FRAME, HEADER, Head, MOST_SLOTS};
 
 // Refusals 1, of one table.
 #[tactic(auto, unfolding(rules::specs::Sound::fits))]
@@ -17,7 +14,7 @@ pub fn fits(capacity: u64, width: u64, table: &[u64]) -> bool
     requires { width ≤ 64 }
     ensures { sound.fits capacity width table.now ≡ result }
 {
-    (1..=MOST).contains(&capacity) && table.len() as u64 == capacity * width
+    (1..=MOST_SLOTS).contains(&capacity) && table.len() as u64 == capacity * width
 }
 
 // Refusals 1, of both.
