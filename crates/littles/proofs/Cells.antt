@@ -4,7 +4,7 @@ use mathlib.Core.Path.{◌≡◌, refl, sym, ap, ◌∙◌}
 use mathlib.Core.List.{List, [], ◌∷◌, ◌++◌, append_assoc}
 use native.Mathlib.Omega.{arith}
 use native.Mathlib.Nat.{div-div-eq-div-mul, pow-suc, mul_assoc, mul_comm}
-use lib.ListN.{length, take, drop, get_or, replicate}
+use lib.ListN.{length, take, drop, get_or, replicate, set}
 use lib.Seq.{sets, drop-drop}
 use borrow.Rule.Slice.PartMut.{put_mid}
 use Rattle.std.specs.Int.{from_le_bytes, to_le_bytes, bytes_low_first, w64}
@@ -66,3 +66,8 @@ take-little (suc n) (suc w) m h = rw (take-little n w (m / 256) (omega arith))
 
 pub put_mid-sets : (at w : ℕ) (out x : List ℕ) → length x ≡ w → at + w ≤ length out → put_mid at w out x ≡ sets out at x
 put_mid-sets at w out x l h = rw (sets-eq x out at (omega (arith, l, h)), l, drop-drop w at out) (sym (append_assoc (take at out) x (drop (at + w) out)))
+
+-- a run of stores after a run of stores
+pub sets_append : (l : List ℕ) (at : ℕ) (a b : List ℕ) → sets (sets l at a) (at + length a) b ≡ sets l at (a ++ b)
+sets_append l at [] b = let z : at + 0 ≡ at = omega arith in rw z
+sets_append l at (x ∷ a) b = let z : at + suc (length a) ≡ suc at + length a = omega arith in rw z (sets_append (set l at x) (suc at) a b)
