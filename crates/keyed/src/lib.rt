@@ -24,10 +24,10 @@ fn key_at(written: &[u64], at: usize) -> Option<Key>
 }
 
 // A key is that of an answer's frame.
-fn is_key(at: usize, key: Key, given: &Given, record: &Record) -> bool
-    ensures { OnlyIf (Some key ≡ key_of given.now.keys (answer_at record.now.bytes at)) result }
+fn is_key(at: usize, key: Key, given: &Given, sample: &Record) -> bool
+    ensures { OnlyIf (Some key ≡ key_of given.now.keys (answer_at sample.now.bytes at)) result }
 {
-    let Some(frame) = record.answer(at) else {
+    let Some(frame) = sample.answer(at) else {
         return false;
     };
     match given.key(frame) {
@@ -37,15 +37,15 @@ fn is_key(at: usize, key: Key, given: &Given, record: &Record) -> bool
 }
 
 // Keys that were written, `width` numbers apart, are those of the answer's frames.
-fn is_ring(count: u8, width: usize, written: &[u64], given: &Given, record: &Record) -> bool
+fn is_ring(count: u8, width: usize, written: &[u64], given: &Given, sample: &Record) -> bool
     requires { width ≤ 6 }
-    ensures { OnlyIf (RingOf count width written.now given.now.keys record.now.bytes) result }
+    ensures { OnlyIf (RingOf count width written.now given.now.keys sample.now.bytes) result }
 {
     for i in 0..usize::from(count) {
         let Some(key) = key_at(written, i * width) else {
             return false;
         };
-        if !is_key(i, key, given, record) {
+        if !is_key(i, key, given, sample) {
             return false;
         }
     }
@@ -53,52 +53,52 @@ fn is_ring(count: u8, width: usize, written: &[u64], given: &Given, record: &Rec
 }
 
 // A union: the value that was, the kept key, and how many frames moved.
-pub fn is_joined(answer: Joined, given: &Given, record: &Record) -> bool
-    ensures { OnlyIf (JoinedAs answer given.now.keys record.now.bytes) result }
+pub fn is_joined(answer: Joined, given: &Given, sample: &Record) -> bool
+    ensures { OnlyIf (JoinedAs answer given.now.keys sample.now.bytes) result }
 {
     match answer {
-        Joined::Into { was, kept, moved } => is_union(was, kept, moved, given, record),
-        Joined::Refused(refusal) => record.is_refused(refusal),
+        Joined::Into { was, kept, moved } => is_union(was, kept, moved, given, sample),
+        Joined::Refused(refusal) => sample.is_refused(refusal),
     }
 }
 
-fn is_union(was: u64, kept: Key, moved: u64, given: &Given, record: &Record) -> bool
-    ensures { OnlyIf (JoinsAs was kept moved given.now.keys record.now.bytes) result }
+fn is_union(was: u64, kept: Key, moved: u64, given: &Given, sample: &Record) -> bool
+    ensures { OnlyIf (JoinsAs was kept moved given.now.keys sample.now.bytes) result }
 {
-    record.is_answer(0, was) && is_key(1, kept, given, record) && record.is_answer(2, moved)
+    sample.is_answer(0, was) && is_key(1, kept, given, sample) && sample.is_answer(2, moved)
 }
 
 // A list: as many keys as the record has answers.
-pub fn is_list(answer: Number, written: &[u64], given: &Given, record: &Record) -> bool
-    ensures { OnlyIf (ListedAs answer written.now given.now.keys record.now.bytes) result }
+pub fn is_list(answer: Number, written: &[u64], given: &Given, sample: &Record) -> bool
+    ensures { OnlyIf (ListedAs answer written.now given.now.keys sample.now.bytes) result }
 {
     match answer {
-        Number::Is(n) => is_listed(n, written, given, record),
-        Number::Refused(refusal) => record.is_refused(refusal),
+        Number::Is(n) => is_listed(n, written, given, sample),
+        Number::Refused(refusal) => sample.is_refused(refusal),
     }
 }
 
-fn is_listed(n: u64, written: &[u64], given: &Given, record: &Record) -> bool
-    ensures { OnlyIf (ListsAs n written.now given.now.keys record.now.bytes) result }
+fn is_listed(n: u64, written: &[u64], given: &Given, sample: &Record) -> bool
+    ensures { OnlyIf (ListsAs n written.now given.now.keys sample.now.bytes) result }
 {
-    let count = record.count();
-    record.is_accepted() && n == u64::from(count) && is_ring(count, LISTED, written, given, record)
+    let count = sample.count();
+    sample.is_accepted() && n == u64::from(count) && is_ring(count, LISTED, written, given, sample)
 }
 
 // A drain: the ring, frame by frame, then its value.
-pub fn is_drained(answer: Number, written: &[u64], given: &Given, record: &Record) -> bool
-    ensures { OnlyIf (DrainedAs answer written.now given.now.keys record.now.bytes) result }
+pub fn is_drained(answer: Number, written: &[u64], given: &Given, sample: &Record) -> bool
+    ensures { OnlyIf (DrainedAs answer written.now given.now.keys sample.now.bytes) result }
 {
     match answer {
-        Number::Is(n) => is_drain(n, written, given, record),
-        Number::Refused(refusal) => record.is_refused(refusal),
+        Number::Is(n) => is_drain(n, written, given, sample),
+        Number::Refused(refusal) => sample.is_refused(refusal),
     }
 }
 
-fn is_drain(n: u64, written: &[u64], given: &Given, record: &Record) -> bool
-    ensures { OnlyIf (DrainsAs n written.now given.now.keys record.now.bytes) result }
+fn is_drain(n: u64, written: &[u64], given: &Given, sample: &Record) -> bool
+    ensures { OnlyIf (DrainsAs n written.now given.now.keys sample.now.bytes) result }
 {
-    let Some(count) = record.count().checked_sub(1) else {
+    let Some(count) = sample.count().checked_sub(1) else {
         return false;
     };
     let frames = usize::from(count);
@@ -109,6 +109,6 @@ fn is_drain(n: u64, written: &[u64], given: &Given, record: &Record) -> bool
         return false;
     };
     n == u64::from(count)
-        && record.is_answer(frames, *value)
-        && is_ring(count, DRAINED, written, given, record)
+        && sample.is_answer(frames, *value)
+        && is_ring(count, DRAINED, written, given, sample)
 }
