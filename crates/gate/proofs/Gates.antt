@@ -3,25 +3,24 @@ use mathlib.Core.Path.{◌≡◌, refl, subst}
 use mathlib.Core.Bool.{false}
 use mathlib.Core.List.{List, []}
 use Prim.Native.Nat.{ℕ}
-use Rattle.rules.specs.declared.Done.{Done}
-use Rattle.rules.specs.declared.Done.TheVariants as done
+use Rattle.std.specs.Prelude.{Result, Ok, Err, ⊤}
 use Rattle.rules.specs.declared.Refusal.{Refusal}
 use Rattle.rules.specs.Tables.{State}
-use Rattle.rules.specs.Answers.{leaves, said_done}
+use Rattle.rules.specs.Answers.{leaves, no_values, said}
 use Rattle.rules.specs.Refusals.{refuse, outcome}
 use Rattle.rules.specs.Undo.{Remembers}
 use Rattle.rules.specs.Calls.{Call, check, Ready, AtDoor}
 use Rattle.rules.proofs.Laws.Doors.{passed}
 use Rattle.gate.specs.Gate.{Gated}
 
-module _ (st : State) (r : Done) (g : Gated st r) where
-  pub opened : r ≡ done.Done → Ready st × Remembers st
+module _ (st : State) (r : Result ⊤ Refusal) (g : Gated st r) where
+  pub opened : r ≡ Ok tt → Ready st × Remembers st
   opened e = subst (Gated st) e g
 
-  pub shut : (n : Refusal) → r ≡ done.Refused n → (lent : List ℕ) (c : Call) → AtDoor st lent c (outcome st lent (refuse n))
+  pub shut : (n : Refusal) → r ≡ Err n → (lent : List ℕ) (c : Call) → AtDoor st lent c (outcome st lent (refuse n))
   shut n e = subst (Gated st) e g
 
 -- the check answers as the gate does
-pub told : (st : State) (r : Done) → Gated st r → AtDoor st [] check (leaves st.head st.elems st.shared [] (said_done r false))
-told st done.Done y = passed st [] check _ y refl
-told st (done.Refused n) g = g [] check
+pub told : (st : State) (r : Result ⊤ Refusal) → Gated st r → AtDoor st [] check (leaves st.head st.elems st.shared [] (said no_values r))
+told st (Ok _) y = passed st [] check _ y refl
+told st (Err n) g = g [] check

@@ -9,8 +9,8 @@ use lib.Dec.{lit<}
 use lib.ListN.{replicate}
 use Rattle.rules.specs.declared.Key.{Key}
 use Rattle.rules.specs.declared.Memory.{Memory}
-use Rattle.rules.specs.declared.Found.{Found}
-use Rattle.rules.specs.declared.Found.TheVariants as lookup
+use Rattle.std.specs.Prelude.{Result, Ok, Err}
+use Rattle.rules.specs.declared.Cause.{Cause}
 use Rattle.rules.specs.declared.Cause.TheVariants.{NoSlot, FreeSlot, OtherGeneration}
 use Rattle.rules.specs.declared.Refusal.TheVariants.{Shape, Unsound, Dead, SameClass, NoElement, NoShared, Short, Malformed, NoFile, Version, Nothing, Sealed, OutOfRange}
 use Rattle.rules.specs.Tables.{State}
@@ -163,9 +163,9 @@ pub first-dead : Sentence three [] (keys (key 4 1 ∷ key 1 2 ∷ [])) (Dead NoS
 first-dead = (inl past, inl other)
 
 -- not the second, nor a cause whose turn does not come, nor of keys that are live
-live : Found → Bool
-live (lookup.Live x) = true
-live (lookup.Dead cause) = false
+live : Result ℕ Cause → Bool
+live (Ok x) = true
+live (Err cause) = false
 
 pub not-second : Sentence three [] (keys (key 4 1 ∷ key 1 2 ∷ [])) (Dead OtherGeneration) → ⊥
 unfolding rules live

@@ -5,7 +5,7 @@ use mathlib.Core.Bool.{Bool, true, false}
 use mathlib.Core.List.{List, [], ◌∷◌, ◌++◌, map}
 use lib.ListN.{replicate}
 use Rattle.rules.specs.declared.Key.{Key}
-use Rattle.rules.specs.declared.Done.TheVariants as done
+use Rattle.std.specs.Prelude.{Ok, Err}
 use Rattle.rules.specs.declared.Refusal.TheVariants.{NoShared}
 use Rattle.rules.specs.Tables.{frame_width, header_width, State, elem_side, shared_side}
 use Rattle.rules.specs.Refusals.{Outcome}
@@ -170,6 +170,6 @@ pub begun : begun_with (record { runs = (key 5 4 ∷ key 2 1 ∷ []) ∷ (key 4 
 begun = refl
 
 -- ---- the code's result as an outcome
-pub results : after_target (record { head = fresh43.head; answer = done.Done; over = false }) (1 ∷ []) (2 ∷ []) study ∷ after_target (record { head = full.head; answer = done.Refused NoShared; over = false }) (3 ∷ []) (4 ∷ []) first ∷ []
+pub results : after_target full.head (Ok (record { head = fresh43.head; answer = tt; over = false })) (1 ∷ []) (2 ∷ []) study ∷ after_target full.head (Err NoShared) (3 ∷ []) (4 ∷ []) first ∷ []
     ≡ took (record { head = fresh43.head; elems = 1 ∷ []; shared = 2 ∷ [] }) study ∷ left 6 (record { head = full.head; elems = 3 ∷ []; shared = 4 ∷ [] }) first ∷ []
 results = refl

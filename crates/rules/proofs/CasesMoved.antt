@@ -5,7 +5,7 @@ use mathlib.Core.Bool.{Bool, true, false}
 use mathlib.Core.List.{List, [], ◌∷◌, ◌++◌, map}
 use lib.ListN.{replicate}
 use Rattle.rules.specs.declared.Key.{Key}
-use Rattle.rules.specs.declared.Number.TheVariants as number
+use Rattle.std.specs.Prelude.{Ok, Err}
 use Rattle.rules.specs.declared.Refusal.TheVariants.{Short}
 use Rattle.rules.specs.Tables.{frame_width, header_width, State}
 use Rattle.rules.specs.Refusals.{Said, Outcome}
@@ -13,7 +13,7 @@ use Rattle.rules.specs.Compress.{packed, place_of}
 use Rattle.rules.specs.Calls.{compress, compress_with, Ready, step}
 use Rattle.rules.specs.Renaming as by-compress
 use Rattle.rules.specs.Renaming.{SameRuns, frames_by, classes_by, Renaming}
-use Rattle.rules.specs.Answers.{said_number}
+use Rattle.rules.specs.Answers.{one_value, said_step}
 use Rattle.rules.specs.History.{History, Given, noted, sorted, begun_at, ordered, renamed, moved_down}
 use Rattle.rules.proofs.Cases.{rules, Case, ◌gives◌, did, says, key, ok, over, refused, pool, at, e, s, m, zeros}
 use Rattle.rules.proofs.Worked.{fresh43, drained, zeroed, reused, canonical}
@@ -85,9 +85,9 @@ pub moved : map did table ≡ map says table
 unfolding rules
 moved = refl
 
--- what the enum says
+-- what the answer says
 pub spoken : map (λ (o : Outcome). o.said) (step (holed 7) (replicate 12 0) (compress_with false) ∷ step (holed 4294967295) (replicate 12 0) (compress_with false) ∷ step (holed 7) [] (compress_with true) ∷ [])
-    ≡ said_number (number.Is 3) false ∷ said_number (number.Is 3) true ∷ said_number (number.Refused Short) false ∷ []
+    ≡ said_step one_value (Ok (record { head = fresh43.head; answer = 3; over = false })) ∷ said_step one_value (Ok (record { head = fresh43.head; answer = 3; over = true })) ∷ said_step one_value (Err Short) ∷ []
 unfolding rules
 spoken = refl
 

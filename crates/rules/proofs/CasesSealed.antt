@@ -1,17 +1,17 @@
--- Ticket 1 at worked cases: the seal, what it refuses and what it leaves allowed, where the mark goes and where it is dropped; what the answer's enum says; and the history's sealed keys.
+-- Ticket 1 at worked cases: the seal, what it refuses and what it leaves allowed, where the mark goes and where it is dropped; what the answer says; and the history's sealed keys.
 use Prim.Native.Nat.{ℕ}
 use mathlib.Core.Path.{◌≡◌, refl}
 use mathlib.Core.Bool.{Bool, true, false}
 use mathlib.Core.List.{List, [], ◌∷◌, ◌++◌, map}
 use lib.ListN.{replicate}
 use Rattle.rules.specs.declared.Key.{Key}
-use Rattle.rules.specs.declared.Seal.TheVariants as seals
+use Rattle.std.specs.Prelude.{Ok, Err}
 use Rattle.rules.specs.declared.Cause.TheVariants.{OtherGeneration}
 use Rattle.rules.specs.declared.Refusal.TheVariants.{Dead, Short, Sealed}
 use Rattle.rules.specs.Tables.{frame_width, header_width, State}
 use Rattle.rules.specs.Refusals.{Said, Outcome}
 use Rattle.rules.specs.Calls.{Call, len_surject, get_shared, set_element, set_shared, new_run, insert, union, remove, remove_shared, list, drain, seal, drain_all, clear, exchange, compress, step, fresh_step}
-use Rattle.rules.specs.Answers.{said_seal}
+use Rattle.rules.specs.Answers.{seal_values, said}
 use Rattle.rules.specs.History.{History, noted, noted_fresh, nothing, others_of, runs_but, inserted_runs, joined_runs, removed_runs, sorted, begun_at, ordered, renamed}
 use Rattle.rules.proofs.Cases.{rules, Case, ◌gives◌, did, says, key, ok, refused, dead, pool, at, joined_as, e, s, m, r, zeros}
 use Rattle.rules.proofs.Worked.{fresh43, one, three, four}
@@ -180,9 +180,9 @@ pub sealed : map did table ≡ map says table
 unfolding rules
 sealed = refl
 
--- what the enum says
+-- what the answer says
 pub spoken : map (λ (o : Outcome). o.said) (step three (replicate 9 0) (seal (key 2 1)) ∷ step three [] (seal (key 2 1)) ∷ step three1 [] (seal (key 2 1)) ∷ step three1 [] (seal (key 2 2)) ∷ [])
-    ≡ said_seal (seals.Is 100 3) ∷ said_seal (seals.Refused Short) ∷ said_seal (seals.Refused Sealed) ∷ said_seal (seals.Refused (Dead OtherGeneration)) ∷ []
+    ≡ said seal_values (Ok (record { value = 100; count = 3 })) ∷ said seal_values (Err Short) ∷ said seal_values (Err Sealed) ∷ said seal_values (Err (Dead OtherGeneration)) ∷ []
 unfolding rules
 spoken = refl
 

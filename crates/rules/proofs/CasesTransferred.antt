@@ -4,7 +4,7 @@ use mathlib.Core.Path.{◌≡◌, refl}
 use mathlib.Core.Bool.{Bool, true, false}
 use mathlib.Core.List.{List, [], ◌∷◌, ◌++◌, map}
 use Rattle.rules.specs.declared.Key.{Key}
-use Rattle.rules.specs.declared.Done.TheVariants as done
+use Rattle.std.specs.Prelude.{Ok, Err}
 use Rattle.rules.specs.declared.Refusal.TheVariants.{NoShared}
 use Rattle.rules.specs.Tables.{frame_width, header_width, State}
 use Rattle.rules.specs.Slots.{empty}
@@ -136,7 +136,7 @@ unfolding rules copying moves
 noted-from = refl
 
 -- ---- the code's result as an outcome
-pub results : after_both (record { head = fresh43.head; source = first.head; answer = done.Done; over = true }) (1 ∷ []) (2 ∷ []) (3 ∷ []) (4 ∷ []) ∷ after_both (record { head = full.head; source = first.head; answer = done.Refused NoShared; over = false }) (5 ∷ []) (6 ∷ []) (7 ∷ []) (8 ∷ []) ∷ []
+pub results : after_both full.head full.head (Ok (record { head = fresh43.head; source = first.head; over = true })) (1 ∷ []) (2 ∷ []) (3 ∷ []) (4 ∷ []) ∷ after_both full.head first.head (Err NoShared) (5 ∷ []) (6 ∷ []) (7 ∷ []) (8 ∷ []) ∷ []
     ≡ overflowed (record { head = fresh43.head; elems = 1 ∷ []; shared = 2 ∷ [] }) (record { head = first.head; elems = 3 ∷ []; shared = 4 ∷ [] })
     ∷ left 6 (record { head = full.head; elems = 5 ∷ []; shared = 6 ∷ [] }) (record { head = first.head; elems = 7 ∷ []; shared = 8 ∷ [] }) ∷ []
 results = refl

@@ -8,8 +8,8 @@ use native.Mathlib.Omega.{arith}
 use lib.ListN.{replicate}
 use Rattle.rules.specs.declared.Key.{Key}
 use Rattle.rules.specs.declared.Cause.TheVariants.{FreeSlot, OtherGeneration, NoSlot}
-use Rattle.rules.specs.declared.Found.{Found}
-use Rattle.rules.specs.declared.Found.TheVariants.{Live, Dead}
+use Rattle.std.specs.Prelude.{Result, Ok, Err}
+use Rattle.rules.specs.declared.Cause.{Cause}
 use Rattle.rules.specs.Tables.{last_generation, State, found, LiveKey}
 use Rattle.rules.specs.Refusals.{Outcome}
 use Rattle.rules.specs.Slots.{empty, raised}
@@ -29,29 +29,29 @@ use Rattle.rules.proofs.Laws.DemandThree.{goes_on}
 use Rattle.rules.proofs.Laws.Marks.{rises}
 
 -- ---- by computation: after each call, what looking up (1,1) finds; each call is lent enough
-abbrev pub lookups : State → List Call → List Found
+abbrev pub lookups : State → List Call → List (Result ℕ Cause)
 lookups st [] = []
 lookups st (c ∷ cs) = let o = step st (replicate 24 0) c in found o.state (key 1 1) ∷ lookups o.state cs
 
 -- a new run gets (1,1), its frame is removed, `c` is called, and there is a new run
-abbrev pub around : Call → List Found
+abbrev pub around : Call → List (Result ℕ Cause)
 around c = lookups fresh43 (new_run 10 100 0 ∷ remove (key 1 1) ∷ c ∷ new_run 20 200 0 ∷ [])
 
 -- a compression is asked to reset, and the next new run gets (1,1) again
-pub reset_brings_back : around (compress true) ≡ Live 1 ∷ Dead FreeSlot ∷ Dead NoSlot ∷ Live 1 ∷ []
+pub reset_brings_back : around (compress true) ≡ Ok 1 ∷ Err FreeSlot ∷ Err NoSlot ∷ Ok 1 ∷ []
 unfolding rules
 reset_brings_back = refl
 
-pub reset_with_brings_back : around (compress_with true) ≡ Live 1 ∷ Dead FreeSlot ∷ Dead NoSlot ∷ Live 1 ∷ []
+pub reset_with_brings_back : around (compress_with true) ≡ Ok 1 ∷ Err FreeSlot ∷ Err NoSlot ∷ Ok 1 ∷ []
 unfolding rules
 reset_with_brings_back = refl
 
 -- not asked to reset, it does not
-pub without_reset : around (compress false) ≡ Live 1 ∷ Dead FreeSlot ∷ Dead NoSlot ∷ Dead OtherGeneration ∷ []
+pub without_reset : around (compress false) ≡ Ok 1 ∷ Err FreeSlot ∷ Err NoSlot ∷ Err OtherGeneration ∷ []
 unfolding rules
 without_reset = refl
 
-pub with_without_reset : around (compress_with false) ≡ Live 1 ∷ Dead FreeSlot ∷ Dead NoSlot ∷ Dead OtherGeneration ∷ []
+pub with_without_reset : around (compress_with false) ≡ Ok 1 ∷ Err FreeSlot ∷ Err NoSlot ∷ Err OtherGeneration ∷ []
 unfolding rules
 with_without_reset = refl
 

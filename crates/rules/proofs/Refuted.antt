@@ -8,8 +8,8 @@ use mathlib.Core.List.{List, [], ◌∷◌, ◌++◌, map}
 use lib.Dec.{lit≤, lit<}
 use lib.ListN.{get_or}
 use Rattle.rules.specs.declared.Key.{Key}
-use Rattle.rules.specs.declared.Found.{Found}
-use Rattle.rules.specs.declared.Found.TheVariants as lookup
+use Rattle.std.specs.Prelude.{Result, Ok, Err}
+use Rattle.rules.specs.declared.Cause.{Cause}
 use Rattle.rules.specs.Tables.{sized, frame_width, frame_at, header_at, cell, is_live, found, State}
 use Rattle.rules.specs.Refusals.{Outcome}
 use Rattle.rules.specs.Calls.{Call, get_element, new_run, union, AtDoor}
@@ -20,9 +20,9 @@ use Rattle.rules.proofs.Worked.{fresh43, one, three}
 use Rattle.rules.proofs.Histories.{told}
 
 -- what a lookup found, as a truth value; the slot of the second key
-live : Found → Bool
-live (lookup.Live x) = true
-live (lookup.Dead cause) = false
+live : Result ℕ Cause → Bool
+live (Ok x) = true
+live (Err cause) = false
 
 abbrev second : List Key → ℕ
 second ks = get_or (map (λ (k : Key). k.slot) ks) 1 0

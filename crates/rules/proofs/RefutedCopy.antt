@@ -9,9 +9,9 @@ use lib.Dec.{T, lit<, lit≤}
 use lib.ListN.{get_or}
 use Rattle.rules.specs.declared.Cause.{Cause}
 use Rattle.rules.specs.declared.Cause.TheVariants.{NoSlot, FreeSlot, OtherGeneration}
-use Rattle.rules.specs.declared.Found.{Found}
+use Rattle.std.specs.Prelude.{Result}
 use Rattle.rules.specs.declared.Memory.{Memory}
-use Rattle.rules.specs.declared.Found.TheVariants as lookup
+use Rattle.std.specs.Prelude.{Ok, Err}
 use Rattle.rules.specs.Tables.{frame_width, header_width, State, Side, elem_side, shared_side, is_live}
 use Rattle.rules.specs.Refusals.{Said}
 use Rattle.rules.specs.Calls.{get_element}
@@ -23,9 +23,9 @@ use Rattle.rules.proofs.Sounds.{trap, trap_unsound, live_range}
 use Rattle.rules.proofs.Restored.{chained, chained_sound}
 use Rattle.rules.proofs.CasesCopied.{study, dirty, into, left}
 
-live : Found → Bool
-live (lookup.Live x) = true
-live (lookup.Dead cause) = false
+live : Result ℕ Cause → Bool
+live (Ok x) = true
+live (Err cause) = false
 
 number : Cause → ℕ
 number NoSlot = 1

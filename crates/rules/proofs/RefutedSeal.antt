@@ -7,8 +7,8 @@ use mathlib.Core.Bool.{Bool, true, false, false≢true}
 use mathlib.Core.List.{List, [], ◌∷◌, ◌++◌, map}
 use lib.ListN.{get_or, replicate}
 use Rattle.rules.specs.declared.Key.{Key}
-use Rattle.rules.specs.declared.Found.{Found}
-use Rattle.rules.specs.declared.Found.TheVariants as lookup
+use Rattle.std.specs.Prelude.{Result, Ok, Err}
+use Rattle.rules.specs.declared.Cause.{Cause}
 use Rattle.rules.specs.Tables.{sized, frame_width, header_width, State}
 use Rattle.rules.specs.Calls.{new_run, remove, seal, compress, compress_with, AtDoor}
 use Rattle.rules.specs.Notation.{flat}
@@ -76,9 +76,9 @@ came_in later S = go (S.only later (key 1 1) (inl refl) (key 2 1) (inr (inl refl
     go (inr q) = q
 
 -- the mark has gone; the frame has gone
-live : Found → Bool
-live (lookup.Live x) = true
-live (lookup.Dead cause) = false
+live : Result ℕ Cause → Bool
+live (Ok x) = true
+live (Err cause) = false
 
 pub mark-gone : Later one alone1 (key 1 1 ∷ []) → Kept → ⊥
 unfolding rules others_of

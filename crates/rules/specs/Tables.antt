@@ -7,8 +7,7 @@ use Rattle.rules.specs.declared.Memory.{Memory}
 use Rattle.rules.specs.declared.Key.{Key}
 use Rattle.rules.specs.declared.Cause.{Cause}
 use Rattle.rules.specs.declared.Cause.TheVariants.{NoSlot, FreeSlot, OtherGeneration}
-use Rattle.rules.specs.declared.Found.{Found}
-use Rattle.rules.specs.declared.Found.TheVariants as lookup
+use Rattle.std.specs.Prelude.{Result, Ok, Err}
 use Rattle.rules.specs.Notation.{◌≤?◌, ◌<?◌}
 
 -- Tables: the highest capacity; Tables 3: the last generation
@@ -158,14 +157,14 @@ cause st k =
     OtherGeneration
 
 -- Tables 4: a key is looked up, and is live if it is found
-unfoldable pub found : State → Key → Found
+unfoldable pub found : State → Key → Result ℕ Cause
 found st k =
     if is_live (elem_side st) k.slot && (generation_of st.elems k.slot == k.generation)
-    then lookup.Live k.slot
-    else lookup.Dead (cause st k)
+    then Ok k.slot
+    else Err (cause st k)
 
 abbrev pub LiveKey : State → Key → Type 0
-LiveKey st k = found st k ≡ lookup.Live k.slot
+LiveKey st k = found st k ≡ Ok k.slot
 
 -- the key of the frame in a slot
 abbrev pub key_at : State → (slot : ℕ) → Key

@@ -1,12 +1,13 @@
 -- Tickets 10 and 12: calls on two recorders' tables, a target and a source: what such a call decides, what it says and leaves of both, and the host's door before it.
-use Rattle.std.specs.Prelude.{ℕ, ◌≡◌, ◌⊎◌, Bool, true, List, [], if◌then◌else◌}
-use Rattle.rules.specs.declared.HeadDone.{HeadDone}
-use Rattle.rules.specs.declared.HeadsDone.{HeadsDone}
+use Rattle.std.specs.Prelude.{ℕ, ◌≡◌, ◌⊎◌, Bool, true, List, [], Result, Ok, Err, ⊤, if◌then◌else◌}
+use Rattle.rules.specs.declared.Head.{Head}
+use Rattle.rules.specs.declared.Step.{Step}
+use Rattle.rules.specs.declared.Moved.{Moved}
 use Rattle.rules.specs.declared.Refusal.{Refusal}
 use Rattle.rules.specs.declared.Refusal.TheVariants.{Shape, Unsound}
 use Rattle.rules.specs.Tables.{State, state_of}
 use Rattle.rules.specs.Refusals.{Said, said_refused, said_accepted, shaped}
-use Rattle.rules.specs.Answers.{said_done}
+use Rattle.rules.specs.Answers.{no_values, said_step, head_after}
 use Rattle.rules.specs.Calls.{Is}
 
 -- What the rule of such a call decides: a refusal; or whether it says overflow, and both states then
@@ -26,12 +27,13 @@ two_outcome target source (refuse r) = record { said = said_refused r; target = 
 two_outcome target source (accept over target' source') = record { said = said_accepted [] over; target = target'; source = source' }
 
 -- the result of a call that leaves the source alone, and what then stands in the target's tables
-abbrev pub after_target : HeadDone → (elems shared : List ℕ) → (source : State) → TwoOutcome
-after_target r elems shared source = record { said = said_done r.answer r.over; target = state_of r.head elems shared; source = source }
+abbrev pub after_target : Head → Result (Step ⊤) Refusal → (elems shared : List ℕ) → (source : State) → TwoOutcome
+after_target head r elems shared source = record { said = said_step no_values r; target = state_of (head_after head r) elems shared; source = source }
 
 -- and that of a call that changes both
-abbrev pub after_both : HeadsDone → (elems shared from_elems from_shared : List ℕ) → TwoOutcome
-after_both r elems shared from_elems from_shared = record { said = said_done r.answer r.over; target = state_of r.head elems shared; source = state_of r.source from_elems from_shared }
+abbrev pub after_both : (target source : Head) → Result Moved Refusal → (elems shared from_elems from_shared : List ℕ) → TwoOutcome
+after_both target source (Ok moved) elems shared from_elems from_shared = record { said = said_accepted [] moved.over; target = state_of moved.head elems shared; source = state_of moved.source from_elems from_shared }
+after_both target source (Err r) elems shared from_elems from_shared = record { said = said_refused r; target = state_of target elems shared; source = state_of source from_elems from_shared }
 
 -- Order: 1 for the source, 1 for the target; then 2, told whether all that must be sound is
 unfoldable pub two_doors : (target source : State) → (sound : Bool) → TwoRuling → TwoRuling

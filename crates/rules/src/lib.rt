@@ -1,16 +1,17 @@
 // The types of document 01: head, key, refusals and answers. The rules are in specs/.
 #![tactic(auto)]
 
-ghost use Rattle.std.specs.Prelude.{◌≡◌, ◌+◌, ◌≤◌, ◌==◌};
+ghost use Rattle.std.specs.Prelude.{◌≡◌, ◌+◌, ◌≤◌, ◌==◌, false};
 ghost use Rattle.rules.specs.Tables.{most_slots, last_generation, with_pools, with_generation, blank, remembering};
-ghost use Rattle.rules.specs.Slots.{slot_of, is_full, freed, raised};
+ghost use Rattle.rules.specs.Slots.{empty_pool, slot_of, is_full, freed, raised};
+ghost use Rattle.rules.specs.Compress.{packed_in};
 
 // Numbers to an element slot and to a shared slot (docs/LAYOUT.md); in the rules, frame_width and header_width.
 pub const FRAME: u64 = 6;
 
 pub const HEADER: u64 = 5;
 
-// Tables 1: the fields of an element slot; in the rules, frameAt.
+// Tables 1: the fields of an element slot; in the rules, frame_at.
 pub const GENERATION: u64 = 0;
 
 pub const PAYLOAD: u64 = 1;
@@ -23,7 +24,7 @@ pub const NEXT: u64 = 4;
 
 pub const SIZE: u64 = 5;
 
-// Tables 2: the fields of a shared slot; in the rules, headerAt.
+// Tables 2: the fields of a shared slot; in the rules, header_at.
 pub const COUNT: u64 = 0;
 
 pub const VALUE: u64 = 1;
@@ -36,6 +37,9 @@ pub const TOTAL: u64 = 4;
 
 // Ticket 6: in the rules, most_bytes.
 pub const MOST_BYTES: u64 = 4294967295;
+
+// Tables: the highest capacity; in the rules, most_slots.
+pub const MOST_SLOTS: u64 = 65536;
 
 // Tables 3: in the rules, last_generation.
 pub const LAST_GENERATION: u64 = 4294967295;
@@ -51,16 +55,36 @@ pub struct Pool {
 }
 
 impl Pool {
+    // Rules 2 and 12: no slot has been taken.
+    pub fn empty(capacity: u64) -> Self
+        ensures { result ≡ empty_pool capacity }
+    {
+        Pool {
+            capacity,
+            extent: 0,
+            root: 0,
+            live: 0,
+        }
+    }
+
+    // Rules 14, Tickets 11 and 12: the first slots are live, and no other.
+    pub fn packed(capacity: u64, live: u64) -> Self
+        ensures { result ≡ packed_in capacity live }
+    {
+        Pool {
+            capacity,
+            extent: live,
+            root: 0,
+            live,
+        }
+    }
+
     // Refusals 5 and 6: no slot can be taken.
     #[tactic(auto, unfolding(crate::specs::Slots::is_full))]
     pub fn is_full(self) -> bool
         ensures { is_full self ≡ result }
     {
-        if self.root == 0 {
-            self.extent == self.capacity
-        } else {
-            false
-        }
+        self.root == 0 && self.extent == self.capacity
     }
 
     // Rules 3: the slot that is taken next.
@@ -82,7 +106,7 @@ impl Pool {
         ensures { result ≡ record { capacity = self.capacity; extent = self.extent; root = next; live = self.live + 1 } }
     {
         self.root = next;
-        self.live = self.live + 1;
+        self.live += 1;
         self
     }
 
@@ -91,8 +115,8 @@ impl Pool {
         requires { (self.extent ≤ most_slots) × (self.live ≤ most_slots) }
         ensures { result ≡ record { capacity = self.capacity; extent = self.extent + 1; root = self.root; live = self.live + 1 } }
     {
-        self.extent = self.extent + 1;
-        self.live = self.live + 1;
+        self.extent += 1;
+        self.live += 1;
         self
     }
 
@@ -103,7 +127,7 @@ impl Pool {
         ensures { result ≡ freed self slot }
     {
         self.root = slot;
-        self.live = self.live - 1;
+        self.live -= 1;
         self
     }
 }
@@ -137,20 +161,12 @@ pub struct Head {
     pub undo: Memory,
 }
 
-// The head with its generation raised, and whether that says overflow.
-#[derive(Clone, Copy)]
-pub struct Raised {
-    pub head: Head,
-    pub over: bool,
-}
-
 impl Head {
     // Ticket 7: nothing is left to undo.
     pub fn forget(mut self) -> Self
         ensures { result ≡ remembering self blank }
     {
-        let none = BLANK;
-        self.undo = none;
+        self.undo = BLANK;
         self
     }
 
@@ -159,10 +175,8 @@ impl Head {
         requires { self.elems.live ≤ most_slots }
         ensures { result ≡ with_pools self (record { capacity = self.elems.capacity; extent = self.elems.extent; root = next; live = self.elems.live + 1 }) self.shared }
     {
-        let pool = self.elems.pop(next);
-        let none = BLANK;
-        self.elems = pool;
-        self.undo = none;
+        self.elems = self.elems.pop(next);
+        self.undo = BLANK;
         self
     }
 
@@ -171,10 +185,8 @@ impl Head {
         requires { (self.elems.extent ≤ most_slots) × (self.elems.live ≤ most_slots) }
         ensures { result ≡ with_pools self (record { capacity = self.elems.capacity; extent = self.elems.extent + 1; root = self.elems.root; live = self.elems.live + 1 }) self.shared }
     {
-        let pool = self.elems.grow();
-        let none = BLANK;
-        self.elems = pool;
-        self.undo = none;
+        self.elems = self.elems.grow();
+        self.undo = BLANK;
         self
     }
 
@@ -183,10 +195,8 @@ impl Head {
         requires { 1 ≤ self.elems.live }
         ensures { result ≡ with_pools self (freed self.elems slot) self.shared }
     {
-        let pool = self.elems.push(slot);
-        let none = BLANK;
-        self.elems = pool;
-        self.undo = none;
+        self.elems = self.elems.push(slot);
+        self.undo = BLANK;
         self
     }
 
@@ -195,10 +205,8 @@ impl Head {
         requires { self.shared.live ≤ most_slots }
         ensures { result ≡ with_pools self self.elems (record { capacity = self.shared.capacity; extent = self.shared.extent; root = next; live = self.shared.live + 1 }) }
     {
-        let pool = self.shared.pop(next);
-        let none = BLANK;
-        self.shared = pool;
-        self.undo = none;
+        self.shared = self.shared.pop(next);
+        self.undo = BLANK;
         self
     }
 
@@ -207,10 +215,8 @@ impl Head {
         requires { (self.shared.extent ≤ most_slots) × (self.shared.live ≤ most_slots) }
         ensures { result ≡ with_pools self self.elems (record { capacity = self.shared.capacity; extent = self.shared.extent + 1; root = self.shared.root; live = self.shared.live + 1 }) }
     {
-        let pool = self.shared.grow();
-        let none = BLANK;
-        self.shared = pool;
-        self.undo = none;
+        self.shared = self.shared.grow();
+        self.undo = BLANK;
         self
     }
 
@@ -219,45 +225,37 @@ impl Head {
         requires { 1 ≤ self.shared.live }
         ensures { result ≡ with_pools self self.elems (freed self.shared slot) }
     {
-        let pool = self.shared.push(slot);
-        let none = BLANK;
-        self.shared = pool;
-        self.undo = none;
+        self.shared = self.shared.push(slot);
+        self.undo = BLANK;
         self
     }
 
     // Rules, below the list: after the last generation comes 1.
     #[tactic(auto, unfolding(crate::specs::Slots::raised))]
-    pub fn raise(mut self) -> Raised
+    pub fn raise(mut self) -> Step<()>
         requires { self.generation ≤ last_generation }
-        ensures { result ≡ record { head = with_generation self (raised self.generation); over = self.generation == last_generation } }
+        ensures { result ≡ record { head = with_generation self (raised self.generation); answer = tt; over = self.generation == last_generation } }
     {
-        let none = BLANK;
-        self.undo = none;
-        if self.generation == LAST_GENERATION {
-            self.generation = 1;
-            return Raised {
-                head: self,
-                over: true,
-            };
-        }
-        self.generation = self.generation + 1;
-        Raised {
+        let over = self.generation == LAST_GENERATION;
+        self.undo = BLANK;
+        self.generation = if over { 1 } else { self.generation + 1 };
+        Step {
             head: self,
-            over: false,
+            answer: (),
+            over,
         }
     }
 }
 
 // Tables and head: a key.
-#[derive(Clone, Copy)]
+#[derive(Clone, Copy, PartialEq, Eq, Debug)]
 pub struct Key {
     pub slot: u64,
     pub generation: u64,
 }
 
 // Ticket 5: why a key is dead, 1 to 3 in this order.
-#[derive(Clone, Copy)]
+#[derive(Clone, Copy, PartialEq, Eq, Debug)]
 pub enum Cause {
     NoSlot,
     FreeSlot,
@@ -265,7 +263,7 @@ pub enum Cause {
 }
 
 // Numbers given on refusal, 1 to 13 in this order; 3 carries its cause.
-#[derive(Clone, Copy)]
+#[derive(Clone, Copy, PartialEq, Eq, Debug)]
 pub enum Refusal {
     Shape,
     Unsound,
@@ -282,57 +280,33 @@ pub enum Refusal {
     OutOfRange,
 }
 
-// What looking up a key finds: its slot, or why it is dead.
-#[derive(Clone, Copy)]
-pub enum Found {
-    Live(u64),
-    Dead(Cause),
-}
+// A dead key refuses the call, by its cause.
+impl From<Cause> for Refusal {
+    ghost use Rattle.rules.specs.declared.Refusal.TheVariants.{Dead};
 
-// The answer of fresh, the check, lookup, clear, undo and compression.
-#[derive(Clone, Copy)]
-pub enum Done {
-    Done,
-    Refused(Refusal),
-}
+    ghost from_gives = { λ cause refusal. refusal ≡ Dead cause };
 
-// The answer of a call that reads or sets a number, and of one that writes places: how many.
-#[derive(Clone, Copy)]
-pub enum Number {
-    Is(u64),
-    Refused(Refusal),
-}
-
-// The answer of `in_same_surject`.
-#[derive(Clone, Copy)]
-pub enum Same {
-    Yes,
-    No,
-    Refused(Refusal),
-}
-
-// The answer of new run and insert.
-#[derive(Clone, Copy)]
-pub enum Inserted {
-    At(Key),
-    Refused(Refusal),
+    fn from(cause: Cause) -> Refusal {
+        Refusal::Dead(cause)
+    }
 }
 
 // The answer of union: the removed shared value, the kept class's key, the class entries rewritten.
 #[derive(Clone, Copy)]
-pub enum Joined {
-    Into { was: u64, kept: Key, moved: u64 },
-    Refused(Refusal),
+pub struct Joined {
+    pub was: u64,
+    pub kept: Key,
+    pub moved: u64,
 }
 
 // The answer of seal: the header's value and count.
 #[derive(Clone, Copy)]
-pub enum Seal {
-    Is { value: u64, count: u64 },
-    Refused(Refusal),
+pub struct Seal {
+    pub value: u64,
+    pub count: u64,
 }
 
-// What removal says of the run: it goes on, or that was its last frame, with the shared value.
+// What removal says of the run: it goes on, or that was its last frame, with the shared value. No Option: document 01, Forms 1, names it.
 #[derive(Clone, Copy)]
 pub enum Rest {
     GoesOn,
@@ -341,69 +315,36 @@ pub enum Rest {
 
 // The answer of removal.
 #[derive(Clone, Copy)]
-pub enum Removed {
-    Out { payload: u64, rest: Rest },
-    Refused(Refusal),
+pub struct Removed {
+    pub payload: u64,
+    pub rest: Rest,
 }
 
-// The answer of the four-key exchange: the old values in key order, zeros when refused.
+// What an accepted call that changes the head hands back: the next head, the answer, and whether it says overflow.
 #[derive(Clone, Copy)]
-pub struct Exchanged {
-    pub answer: Done,
-    pub old: [u64; 4],
-}
-
-// What a head-changing step hands back: the next head, its answer, and beside it the overflow mark where the call can say overflow.
-#[derive(Clone, Copy)]
-pub struct HeadDone {
+pub struct Step<T> {
     pub head: Head,
-    pub answer: Done,
+    pub answer: T,
     pub over: bool,
 }
 
-// Ticket 12: the same of a step that changes both heads.
+impl<T> Step<T> {
+    // The answer of a call that cannot say overflow.
+    pub fn plain(head: Head, answer: T) -> Self
+        ensures { result ≡ record { head = head; answer = answer; over = false } }
+    {
+        Step {
+            head,
+            answer,
+            over: false,
+        }
+    }
+}
+
+// Ticket 12: what the move hands back, the next head of both.
 #[derive(Clone, Copy)]
-pub struct HeadsDone {
+pub struct Moved {
     pub head: Head,
     pub source: Head,
-    pub answer: Done,
-    pub over: bool,
-}
-
-#[derive(Clone, Copy)]
-pub struct HeadNumber {
-    pub head: Head,
-    pub answer: Number,
-    pub over: bool,
-}
-
-#[derive(Clone, Copy)]
-pub struct HeadInserted {
-    pub head: Head,
-    pub answer: Inserted,
-}
-
-#[derive(Clone, Copy)]
-pub struct HeadJoined {
-    pub head: Head,
-    pub answer: Joined,
-}
-
-#[derive(Clone, Copy)]
-pub struct HeadSeal {
-    pub head: Head,
-    pub answer: Seal,
-}
-
-#[derive(Clone, Copy)]
-pub struct HeadExchanged {
-    pub head: Head,
-    pub answer: Exchanged,
-}
-
-#[derive(Clone, Copy)]
-pub struct HeadRemoved {
-    pub head: Head,
-    pub answer: Removed,
     pub over: bool,
 }

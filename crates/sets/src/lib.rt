@@ -5,57 +5,41 @@
 ghost use Rattle.std.specs.Prelude.{◌≡◌, []};
 ghost use Rattle.rules.specs.Tables.{state_of};
 ghost use Rattle.rules.specs.Calls.{Ready, step, set_element, set_shared};
-ghost use Rattle.rules.specs.Answers.{after_number};
+ghost use Rattle.rules.specs.Answers.{one_value, after};
 
-use rules::{CLASS, FRAME, Found, HEADER, Head, HeadNumber, Key, Number, PAYLOAD, Refusal, VALUE};
+use rules::{CLASS, FRAME, HEADER, Head, Key, PAYLOAD, Refusal, Step, VALUE};
 
 // A new payload; the answer is the old one.
-pub fn set(head: Head, elems: &mut [u64], shared: &[u64], key: Key, payload: u64) -> HeadNumber
+pub fn set(
+    head: Head,
+    elems: &mut [u64],
+    shared: &[u64],
+    key: Key,
+    payload: u64,
+) -> Result<Step<u64>, Refusal>
     requires { Ready (state_of head elems.old shared.now) }
-    ensures { after_number result elems.new shared.now [] ≡ step (state_of head elems.old shared.now) [] (set_element key payload) }
+    ensures { after one_value head result elems.new shared.now [] ≡ step (state_of head elems.old shared.now) [] (set_element key payload) }
 {
-    let x = match slots::find(head, elems, key) {
-        Found::Live(x) => x,
-        Found::Dead(cause) => {
-            return HeadNumber {
-                head,
-                answer: Number::Refused(Refusal::Dead(cause)),
-                over: false,
-            };
-        }
-    };
+    let x = slots::find(head, elems, key)?;
     let old = slots::get(elems, FRAME, PAYLOAD, x);
     slots::put(elems, FRAME, x, PAYLOAD, payload);
-    let next = head.forget();
-    HeadNumber {
-        head: next,
-        answer: Number::Is(old),
-        over: false,
-    }
+    Ok(Step::plain(head.forget(), old))
 }
 
 // A new value of the class; the answer is the old one.
-pub fn set_shared(head: Head, elems: &[u64], shared: &mut [u64], key: Key, value: u64) -> HeadNumber
+pub fn set_shared(
+    head: Head,
+    elems: &[u64],
+    shared: &mut [u64],
+    key: Key,
+    value: u64,
+) -> Result<Step<u64>, Refusal>
     requires { Ready (state_of head elems.now shared.old) }
-    ensures { after_number result elems.now shared.new [] ≡ step (state_of head elems.now shared.old) [] (set_shared key value) }
+    ensures { after one_value head result elems.now shared.new [] ≡ step (state_of head elems.now shared.old) [] (set_shared key value) }
 {
-    let x = match slots::find(head, elems, key) {
-        Found::Live(x) => x,
-        Found::Dead(cause) => {
-            return HeadNumber {
-                head,
-                answer: Number::Refused(Refusal::Dead(cause)),
-                over: false,
-            };
-        }
-    };
+    let x = slots::find(head, elems, key)?;
     let class = slots::get(elems, FRAME, CLASS, x);
-    let old = slots::get(shared, HEADER, VALUE, class);
+    let was = slots::get(shared, HEADER, VALUE, class);
     slots::put(shared, HEADER, class, VALUE, value);
-    let after = head.forget();
-    HeadNumber {
-        head: after,
-        answer: Number::Is(old),
-        over: false,
-    }
+    Ok(Step::plain(head.forget(), was))
 }

@@ -9,8 +9,8 @@ ghost use Rattle.slots.specs.Asked.{Within, Cell, Takes, Next, Between, Along, O
 ghost use Rattle.slots.specs.Answered.{Looks, spliced};
 
 use rules::{
-    CLASS, COUNT, Cause, FRAME, Found, GENERATION, HEADER, Head, Key, MARK, NEXT, NEXT_FREE,
-    PAYLOAD, PREVIOUS, SIZE, TOTAL, VALUE,
+    CLASS, COUNT, Cause, FRAME, GENERATION, HEADER, Head, Key, MARK, NEXT, NEXT_FREE, PAYLOAD,
+    PREVIOUS, SIZE, TOTAL, VALUE,
 };
 
 // A field of a slot.
@@ -116,25 +116,25 @@ pub fn free_header(head: Head, shared: &mut [u64], slot: u64) -> Head
 }
 
 // Tables 4 and Ticket 5: a key is looked up.
-pub fn find(head: Head, elems: &[u64], key: Key) -> Found
+pub fn find(head: Head, elems: &[u64], key: Key) -> Result<u64, Cause>
     requires { head.elems.extent * frame_width ≤ length elems.now }
     ensures { (s : List ℕ) → Looks (state_of head elems.now s) key result }
 {
     let slot = key.slot;
     if slot == 0 {
-        return Found::Dead(Cause::NoSlot);
+        return Err(Cause::NoSlot);
     }
     if head.elems.extent < slot {
-        return Found::Dead(Cause::NoSlot);
+        return Err(Cause::NoSlot);
     }
     let generation = get(elems, FRAME, GENERATION, slot);
     if generation == 0 {
-        return Found::Dead(Cause::FreeSlot);
+        return Err(Cause::FreeSlot);
     }
     if generation == key.generation {
-        return Found::Live(slot);
+        return Ok(slot);
     }
-    Found::Dead(Cause::OtherGeneration)
+    Err(Cause::OtherGeneration)
 }
 
 // Ticket 1: the run of the frame in a live slot is sealed.

@@ -12,9 +12,9 @@ use Rattle.rules.specs.Runs.{header, counted, rewritten, exchanged}
 use Rattle.rules.specs.Undo
 use Rattle.rules.specs.Undo.{taken_back}
 use Rattle.rules.specs.Calls.{Ready, step, undo}
-use Rattle.rules.specs.Answers.{after_done}
+use Rattle.rules.specs.Answers.{no_values, after}
 use Rattle.rules.specs.declared.Head.{Head}
-use Rattle.rules.specs.declared.Done.TheVariants as done
+use Rattle.std.specs.Prelude.{Ok}
 use mathlib.Core.Bool.{false}
 use Rattle.rules.proofs.Laws.Columns.{length-row}
 use Rattle.rules.proofs.Laws.Pools.{if_eq, if_ne, live_in}
@@ -75,6 +75,6 @@ pub undo-refused : (st : State) → st.head.undo.kept ≡ 0 → outcome st [] (r
 unfolding Undo.undo
 undo-refused st e = ap (outcome st []) (sym (if_eq st.head.undo.kept 0 _ _ e))
 
-pub undo-accepted : (st : State) (next : Head) (e s : List ℕ) → st.head.undo.kept ≢ 0 → state_of next e s ≡ taken_back st → after_done (record { head = next; answer = done.Done; over = false }) e s [] ≡ step st [] undo
+pub undo-accepted : (st : State) (next : Head) (e s : List ℕ) → st.head.undo.kept ≢ 0 → state_of next e s ≡ taken_back st → after no_values st.head (Ok (record { head = next; answer = tt; over = false })) e s [] ≡ step st [] undo
 unfolding Undo.undo
 undo-accepted st next e s n q = ap (λ (t : State). outcome st [] (answer [] t)) q ∙ ap (outcome st []) (sym (if_ne st.head.undo.kept 0 _ _ n))

@@ -9,12 +9,12 @@ ghost use Rattle.rules.specs.Undo.{Remembers, taken_back};
 ghost use Rattle.rules.specs.Calls.{Ready, Is, step};
 ghost use Rattle.rules.proofs.Laws.Traced.{Traced};
 ghost use Rattle.rules.specs.Calls as calls;
-ghost use Rattle.rules.specs.Answers.{after_done};
+ghost use Rattle.rules.specs.Answers.{no_values, after};
 ghost use Rattle.slots.specs.Asked.{Along};
 ghost use Rattle.undos.specs.Undo.{Undoable};
 
 use rules::{
-    CLASS, COUNT, Done, FRAME, GENERATION, HEADER, Head, HeadDone, MARK, NEXT, Refusal, SIZE, TOTAL,
+    CLASS, COUNT, FRAME, GENERATION, HEADER, Head, MARK, NEXT, Refusal, SIZE, Step, TOTAL,
 };
 
 // Ticket 6: the bytes of `n` frames along next from `x`.
@@ -55,24 +55,16 @@ fn take_back(head: Head, elems: &mut [u64], shared: &mut [u64]) -> Head
 }
 
 // Undo.
-pub fn undo(head: Head, elems: &mut [u64], shared: &mut [u64]) -> HeadDone
+pub fn undo(head: Head, elems: &mut [u64], shared: &mut [u64]) -> Result<Step<()>, Refusal>
     requires { Ready (state_of head elems.old shared.old) × Remembers (state_of head elems.old shared.old) }
-    ensures { after_done result elems.new shared.new [] ≡ step (state_of head elems.old shared.old) [] calls.undo }
+    ensures { after no_values head result elems.new shared.new [] ≡ step (state_of head elems.old shared.old) [] calls.undo }
 {
     let memory = head.undo;
     if memory.kept == 0 {
-        return HeadDone {
-            head,
-            answer: Done::Refused(Refusal::Nothing),
-            over: false,
-        };
+        return Err(Refusal::Nothing);
     }
     let next = take_back(head, elems, shared);
-    HeadDone {
-        head: next,
-        answer: Done::Done,
-        over: false,
-    }
+    Ok(Step::plain(next, ()))
 }
 
 // The slot that `n` steps along next lead to.

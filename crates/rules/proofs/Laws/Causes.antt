@@ -10,7 +10,7 @@ use mathlib.Core.List.{List, [], ◌∷◌}
 use Rattle.rules.specs.declared.Key.{Key}
 use Rattle.rules.specs.declared.Cause.{Cause}
 use Rattle.rules.specs.declared.Cause.TheVariants.{NoSlot, FreeSlot, OtherGeneration}
-use Rattle.rules.specs.declared.Found.TheVariants as lookup
+use Rattle.std.specs.Prelude.{Ok, Err}
 use Rattle.rules.specs.Notation.{◌<?◌}
 use Rattle.rules.specs.Tables.{generation_of, State, is_free, is_live, cause, found, LiveKey}
 use Rattle.rules.specs.Calls.{Is}
@@ -29,11 +29,11 @@ data Either (st : State) (k : Key) : Type 0 where
 
 module _ (st : State) (k : Key) where
   -- what is found, by each of its ways
-  pub found_none : k.slot ≡ 0 → found st k ≡ lookup.Dead NoSlot
+  pub found_none : k.slot ≡ 0 → found st k ≡ Err NoSlot
   unfolding found cause is_live
   found_none z = simp z
 
-  pub found-past : st.head.elems.extent < k.slot → found st k ≡ lookup.Dead NoSlot
+  pub found-past : st.head.elems.extent < k.slot → found st k ≡ Err NoSlot
   unfolding found cause is_live
   found-past h = simp (ne_eqb k.slot 0 (λ e. omega arith), le-leb 1 k.slot (omega arith), lt-leb _ _ h, le-leb _ _ h)
 
@@ -41,15 +41,15 @@ module _ (st : State) (k : Key) where
     past : (st.head.elems.extent <? k.slot) ≡ false
     past = lt-leb (suc st.head.elems.extent) k.slot (omega arith)
 
-    pub found-free : generation_of st.elems k.slot ≡ 0 → found st k ≡ lookup.Dead FreeSlot
+    pub found-free : generation_of st.elems k.slot ≡ 0 → found st k ≡ Err FreeSlot
     unfolding found cause is_free is_live
     found-free z = simp (le-leb 1 k.slot (omega arith), ne_eqb _ _ n, le-leb _ _ h, past, z)
 
-    pub found-other : (generation_of st.elems k.slot ≡ 0 → ⊥) → (generation_of st.elems k.slot ≡ k.generation → ⊥) → found st k ≡ lookup.Dead OtherGeneration
+    pub found-other : (generation_of st.elems k.slot ≡ 0 → ⊥) → (generation_of st.elems k.slot ≡ k.generation → ⊥) → found st k ≡ Err OtherGeneration
     unfolding found cause is_free is_live
     found-other u e = simp (le-leb 1 k.slot (omega arith), ne_eqb _ _ n, le-leb _ _ h, past, ne_eqb _ _ u, ne_eqb _ _ e)
 
-  found_because : (c : Cause) → Because st k c → found st k ≡ lookup.Dead c
+  found_because : (c : Cause) → Because st k c → found st k ≡ Err c
   found_because NoSlot (inl z, n) = found_none z
   found_because NoSlot (inr h, n) = found-past h
   found_because FreeSlot (z, (n, m)) = found-free (λ e. n (inl e)) (within (λ h. n (inr h))) z
@@ -76,10 +76,10 @@ module _ (st : State) (k : Key) where
       go false false false false z h u e = dead OtherGeneration (e, (neither z h, (u, tt)))
 
   -- a live key is not dead
-  live-not : (c : Cause) → LiveKey st k → found st k ≡ lookup.Dead c → ⊥
+  live-not : (c : Cause) → LiveKey st k → found st k ≡ Err c → ⊥
   live-not c l e = let z : ◌≡◌ {A = ℕ} 0 1 = cc in absurd (omega arith)
 
-  because_found : (c : Cause) → found st k ≡ lookup.Dead c → Because st k c
+  because_found : (c : Cause) → found st k ≡ Err c → Because st k c
   because_found c e = go which
     where
       go : Either st k → Because st k c
@@ -87,7 +87,7 @@ module _ (st : State) (k : Key) where
       go (dead d b) = let f = found_because d b in let q : d ≡ c = cc in subst (Because st k) q b
 
   -- each cause is told exactly when its sentence holds, and that of no cause before it
-  pub cause-is : (c : Cause) → (found st k ≡ lookup.Dead c) ↔ Because st k c
+  pub cause-is : (c : Cause) → (found st k ≡ Err c) ↔ Because st k c
   cause-is c = (because_found c, found_because c)
 
   -- no two at once

@@ -9,7 +9,7 @@ use native.Mathlib.Omega.{arith}
 use native.Mathlib.Decide.{ℕ_discrete}
 use lib.ListN.{length}
 use Rattle.rules.specs.declared.Key.{Key}
-use Rattle.rules.specs.declared.Found.TheVariants as lookup
+use Rattle.std.specs.Prelude.{Ok, Err}
 use Rattle.rules.specs.Tables.{most_slots, frame_width, header_width, frame_at, header_at, cell, State, Side, elem_side, shared_side, field_of, is_live, found}
 use Rattle.rules.specs.Calls.{Ready}
 use Rattle.rules.specs.Renaming.{SameRuns}

@@ -12,7 +12,7 @@ use lib.ListN.{length}
 use Rattle.rules.specs.declared.Key.{Key}
 use Rattle.rules.specs.declared.Cause.{Cause}
 use Rattle.rules.specs.declared.Cause.TheVariants.{NoSlot, FreeSlot, OtherGeneration}
-use Rattle.rules.specs.declared.Found.TheVariants as lookup
+use Rattle.std.specs.Prelude.{Ok, Err}
 use Rattle.rules.specs.declared.Refusal.TheVariants.{Short}
 use Rattle.rules.specs.Notation.{◌≤?◌, ◌<?◌, along, up_to, flat, keep, every}
 use Rattle.rules.specs.Tables
@@ -171,7 +171,7 @@ module _ (a b : ℕ) (st : State) (W : Working (view st)) (M : Roomy a b st) whe
     on-key k rule rule' h = rw (same_live k.slot, gens a b st W) (go (is_live (elem_side st) k.slot) (generation_of st.elems k.slot == k.generation) (λ t. h k.slot (live_of (elem_side st) k.slot t).used))
       where
         go : (p q : Bool) → (T p → Alike (outcome st' lent (rule' k.slot)) (outcome st lent (rule k.slot)))
-            → Alike (outcome st' lent (when_live (if p && q then lookup.Live k.slot else lookup.Dead (cause st' k)) rule')) (outcome st lent (when_live (if p && q then lookup.Live k.slot else lookup.Dead (cause st k)) rule))
+            → Alike (outcome st' lent (when_live (if p && q then Ok k.slot else Err (cause st' k)) rule')) (outcome st lent (when_live (if p && q then Ok k.slot else Err (cause st k)) rule))
         go true true f = f tt
         go true false f = record { number = refl; said = λ e. absurd (omega (arith, e)); lent = refl }
         go false q f = record { number = refl; said = λ e. absurd (omega (arith, e)); lent = refl }

@@ -9,7 +9,7 @@ use native.Mathlib.Omega.{arith}
 use lib.ListN.{length}
 use Rattle.rules.specs.declared.Pool.{Pool}
 use Rattle.rules.specs.declared.Memory.{Memory}
-use Rattle.rules.specs.declared.Found.TheVariants as lookup
+use Rattle.std.specs.Prelude.{Ok, Err}
 use Rattle.rules.specs.declared.Refusal.{Refusal}
 use Rattle.rules.specs.declared.Refusal.TheVariants.{SameClass, Sealed}
 use Rattle.rules.specs.Notation.{◌<?◌}
@@ -41,7 +41,7 @@ union-first : (st : State) → Ready st → (x y : ℕ) → (view st).gen x ≢ 
 unfolding union
 union-first st R x y hx hy apart l mx my =
     let W = working st R in
-    let live : (s : ℕ) → (view st).gen s ≢ 0 → found st (key_at st s) ≡ lookup.Live s = λ s h. let i = live_in W.elems s h in found-live st (key_at st s) (record { some = i.0; within = i.1; used = omega (arith, h) }) refl in
+    let live : (s : ℕ) → (view st).gen s ≢ 0 → found st (key_at st s) ≡ Ok s = λ s h. let i = live_in W.elems s h in found-live st (key_at st s) (record { some = i.0; within = i.1; used = omega (arith, h) }) refl in
     rw (
       live x hx,
       live y hy,

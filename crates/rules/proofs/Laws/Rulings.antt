@@ -7,8 +7,8 @@ use mathlib.Core.List.{List, [], ◌∷◌}
 use Prim.Native.Nat.{ℕ}
 use native.Mathlib.Omega.{arith}
 use Rattle.rules.specs.declared.Key.{Key}
-use Rattle.rules.specs.declared.Found.{Found}
-use Rattle.rules.specs.declared.Found.TheVariants as lookup
+use Rattle.std.specs.Prelude.{Result, Ok, Err}
+use Rattle.rules.specs.declared.Cause.{Cause}
 use Rattle.rules.specs.declared.Refusal.{Refusal}
 use Rattle.rules.specs.declared.Refusal.TheVariants.{Dead}
 use Rattle.rules.specs.Tables.{State, found, LiveKey}
@@ -30,9 +30,9 @@ module _ (P : Ruling → Type 0) where
   pub by_key : ((r : Refusal) → P (refuse r)) → (st : State) (k : Key) (rule : ℕ → Ruling) → (LiveKey st k → P (rule k.slot)) → P (with_live st k rule)
   by_key n st k rule f = go (found st k) refl
     where
-      go : (x : Found) → found st k ≡ x → P (when_live x rule)
-      go (lookup.Live x) e = let q : x ≡ k.slot = (looked st k x e).same in rw q (f (e ∙ ap lookup.Live q))
-      go (lookup.Dead cause) e = n (Dead cause)
+      go : (x : Result ℕ Cause) → found st k ≡ x → P (when_live x rule)
+      go (Ok x) e = let q : x ≡ k.slot = (looked st k x e).same in rw q (f (e ∙ ap Ok q))
+      go (Err cause) e = n (Dead cause)
 
   pub by-keys : ((r : Refusal) → P (refuse r)) → (st : State) (ks : List Key) (rule : List ℕ → Ruling) → ((xs : List ℕ) → All (λ x. (view st).gen x ≢ 0) xs → P (rule xs)) → P (with_all_live st ks rule)
   by-keys n st [] rule f = f [] tt

@@ -10,7 +10,7 @@ use lib.Dec.{T, eqb→eq, eqb_refl}
 use lib.ListN.{length}
 use Rattle.rules.specs.declared.Pool.{Pool}
 use Rattle.rules.specs.declared.Key.{Key}
-use Rattle.rules.specs.declared.Found.TheVariants as lookup
+use Rattle.std.specs.Prelude.{Ok, Err}
 use Rattle.rules.specs.Tables.{most_slots, last_generation, most_bytes, total_bound, frame_width, header_width, generation_of, class_of, previous_of, next_of, bytes_of, count_of, total_of, State, elem_side, is_live, cause, found}
 use Rattle.rules.specs.Calls.{Ready}
 use Rattle.rules.proofs.Laws.Lists.{All, Walk, all_map}
@@ -143,7 +143,7 @@ pub record Looked (st : State) (k : Key) (x : ℕ) : Type 0 where
   pub live : LiveSlot st x
   pub generation : generation_of st.elems x ≡ k.generation
 
-pub looked : (st : State) (k : Key) (x : ℕ) → found st k ≡ lookup.Live x → Looked st k x
+pub looked : (st : State) (k : Key) (x : ℕ) → found st k ≡ Ok x → Looked st k x
 unfolding found
 looked st k x e = go (is_live (elem_side st) k.slot && (generation_of st.elems k.slot == k.generation)) (λ t. t) e
   where
@@ -153,16 +153,16 @@ looked st k x e = go (is_live (elem_side st) k.slot && (generation_of st.elems k
         let l = live_of (elem_side st) k.slot p.0 in
         record { same = q; live = rw q (record { some = l.low; within = l.high; used = omega (arith, l.used) }); generation = rw q (eqb→eq (generation_of st.elems k.slot) k.generation p.1) }
 
-    go : (b : Bool) → (T b → T (is_live (elem_side st) k.slot && (generation_of st.elems k.slot == k.generation))) → (if b then lookup.Live k.slot else lookup.Dead (cause st k)) ≡ lookup.Live x → Looked st k x
+    go : (b : Bool) → (T b → T (is_live (elem_side st) k.slot && (generation_of st.elems k.slot == k.generation))) → (if b then Ok k.slot else Err (cause st k)) ≡ Ok x → Looked st k x
     go true f q = yes_case (f tt) (cc)
     go false f q = let z : ◌≡◌ {A = ℕ} 0 1 = cc in absurd (omega arith)
 
-pub found-live : (st : State) (k : Key) → LiveSlot st k.slot → generation_of st.elems k.slot ≡ k.generation → found st k ≡ lookup.Live k.slot
+pub found-live : (st : State) (k : Key) → LiveSlot st k.slot → generation_of st.elems k.slot ≡ k.generation → found st k ≡ Ok k.slot
 unfolding found
 found-live st k l e = go (is_live (elem_side st) k.slot && (generation_of st.elems k.slot == k.generation))
     (T_and (is_live (elem_side st) k.slot) (generation_of st.elems k.slot == k.generation)
     (live_to (elem_side st) k.slot (record { low = l.some; high = l.within; used = omega (arith, l.used) })) (rw e (eqb_refl k.generation)))
   where
-    go : (b : Bool) → T b → (if b then lookup.Live k.slot else lookup.Dead (cause st k)) ≡ lookup.Live k.slot
+    go : (b : Bool) → T b → (if b then Ok k.slot else Err (cause st k)) ≡ Ok k.slot
     go true t = refl
     go false t = absurd t

@@ -8,8 +8,8 @@ use Prim.Native.Nat.{ℕ, suc, ◌+◌, ◌≤◌, ◌<◌}
 use native.Mathlib.Omega.{arith}
 use lib.ListN.{length, get_or}
 use Rattle.rules.specs.declared.Key.{Key}
-use Rattle.rules.specs.declared.Found.{Found}
-use Rattle.rules.specs.declared.Found.TheVariants.{Live, Dead}
+use Rattle.std.specs.Prelude.{Result, Ok, Err}
+use Rattle.rules.specs.declared.Cause.{Cause}
 use Rattle.rules.specs.declared.Refusal.{Refusal}
 use Rattle.rules.specs.declared.Refusal.TheVariants.{NoElement, NoShared, Short, Sealed}
 use Rattle.rules.specs.Notation.{along, flat}
@@ -319,9 +319,9 @@ lookup-says : (st : State) (lent : List ℕ) (k : Key) → (Tables.LiveKey st k 
 unfolding Reads.lookup
 lookup-says st lent k n = go (found st k) refl
   where
-    go : (x : Found) → found st k ≡ x → (outcome st lent (when_live x (λ y. Refusals.answer [] st))).said.number ≡ 3
-    go (Live x) e = absurd (n (e ∙ ap Live (looked st k x e).same))
-    go (Dead cause) e = refl
+    go : (x : Result ℕ Cause) → found st k ≡ x → (outcome st lent (when_live x (λ y. Refusals.answer [] st))).said.number ≡ 3
+    go (Ok x) e = absurd (n (e ∙ ap Ok (looked st k x e).same))
+    go (Err cause) e = refl
 
 lookup_refuses : (s : Sequence) (k : Key) → (Tables.LiveKey s.state k → ⊥) → (lent : List ℕ) (o : Outcome) → AtDoor s.state lent (lookup k) o → o.said.number ≡ 3
 lookup_refuses s k n lent o d = ap (λ (p : Outcome). p.said.number) (at-door (good_of s) (recalls_of s) lent (lookup k) o d) ∙ lookup-says s.state lent k n

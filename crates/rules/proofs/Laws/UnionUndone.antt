@@ -10,8 +10,8 @@ use Rattle.rules.specs.declared.Pool.{Pool}
 use Rattle.rules.specs.declared.Key.{Key}
 use Rattle.rules.specs.declared.Memory.{Memory}
 use Rattle.rules.specs.declared.Cause.TheVariants.{NoSlot, FreeSlot, OtherGeneration}
-use Rattle.rules.specs.declared.Found.{Found}
-use Rattle.rules.specs.declared.Found.TheVariants as lookup
+use Rattle.std.specs.Prelude.{Result, Ok, Err}
+use Rattle.rules.specs.declared.Cause.{Cause}
 use Rattle.rules.specs.Notation.{◌≤?◌, ◌<?◌}
 use Rattle.rules.specs.Tables
 use Rattle.rules.specs.Tables.{State, with_undo, forgetting, generation_of, payload_of, bytes_of, elem_side, found}
@@ -80,10 +80,10 @@ module _ (st : State) (R : Ready st) (lent : List ℕ) (j k : Key) (e : (step st
 -- ---- no frame is gained or lost
 
 -- what looking up a key reads
-abbrev found_by : Pool → (generations : ℕ → ℕ) → Key → Found
+abbrev found_by : Pool → (generations : ℕ → ℕ) → Key → Result ℕ Cause
 found_by p g k =
-    if (1 ≤? k.slot) && (k.slot ≤? p.extent) && not (g k.slot == 0) && (g k.slot == k.generation) then lookup.Live k.slot else
-    lookup.Dead (if (k.slot == 0) || (p.extent <? k.slot) then NoSlot else if (1 ≤? k.slot) && (k.slot ≤? p.extent) && (g k.slot == 0) then FreeSlot else OtherGeneration)
+    if (1 ≤? k.slot) && (k.slot ≤? p.extent) && not (g k.slot == 0) && (g k.slot == k.generation) then Ok k.slot else
+    Err (if (k.slot == 0) || (p.extent <? k.slot) then NoSlot else if (1 ≤? k.slot) && (k.slot ≤? p.extent) && (g k.slot == 0) then FreeSlot else OtherGeneration)
 
 found-by : (st : State) (k : Key) → found st k ≡ found_by st.head.elems (generation_of st.elems) k
 unfolding found Tables.cause Tables.is_live Tables.is_free

@@ -10,4 +10,4 @@ pub take_back-next-requires : goal.take_back-next-requires
 take_back-next-requires c = undoable _ c.requires.0 (traced_memory _ c.requires.0 c.requires.1 c.if-memory-eq0.false)
 
 pub returns : goal.returns
-returns c = undo-accepted (state_of c.args.head c.args.elems.now c.args.shared.now) _ _ _ c.if-memory-eq0.false c.take_back-next.ensures
+returns c = rw c.plain.ensures (undo-accepted (state_of c.args.head c.args.elems.now c.args.shared.now) _ _ _ c.if-memory-eq0.false c.take_back-next.ensures)
