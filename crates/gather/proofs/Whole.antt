@@ -9,7 +9,6 @@ use lib.ListN.{length, get_or, drop, replicate, length-append, length-replicate,
 use lib.Seq.{ext_get_or, get_or-append-add, get_or-drop}
 use Rattle.rules.specs.Tables.{most_slots, frame_width, cell, State}
 use Rattle.rules.specs.Calls.{Ready}
-use Rattle.rules.specs.Compress.{canonical_frames}
 use Rattle.rules.proofs.Laws.Soundness.{shaped_of}
 use Rattle.copies.specs.Parts.{Pasted, Zeroed}
 use Rattle.gather.specs.Elements.{Moved, Gathered, Regrouped}

@@ -4,7 +4,7 @@ use mathlib.Core.Path.{◌≡◌, refl, sym, ap, ◌∙◌}
 use mathlib.Core.Logic.{◌≢◌}
 use mathlib.Core.Bool.{Bool, true, false}
 use mathlib.Core.List.{List, [], ◌∷◌, map}
-use Prim.Native.Nat.{ℕ, zero, suc, ◌*◌, ◌-◌, ◌≤◌, ◌<◌}
+use Prim.Native.Nat.{ℕ, ◌*◌, ◌-◌, ◌≤◌}
 use native.Mathlib.Omega.{arith}
 use lib.ListN.{length, replicate, get_or-eq_default}
 use Rattle.rules.specs.declared.Head.{Head}
@@ -12,7 +12,7 @@ use Rattle.rules.specs.declared.HeadsDone.{HeadsDone}
 use Rattle.rules.specs.declared.Done.TheVariants as done
 use Rattle.rules.specs.declared.Refusal.{Refusal}
 use Rattle.rules.specs.Notation.{flat}
-use Rattle.rules.specs.Tables.{most_slots, last_generation, frame_width, header_width, blank, State, state_of}
+use Rattle.rules.specs.Tables.{last_generation, frame_width, header_width, blank, State, state_of}
 use Rattle.rules.specs.Refusals.{said_accepted, shaped}
 use Rattle.rules.specs.Slots.{empty, raised, overflows}
 use Rattle.rules.specs.Drains.{cleared}
@@ -20,11 +20,10 @@ use Rattle.rules.specs.Calls.{Ready}
 use Rattle.rules.specs.Compress.{canonical_frames, canonical_classes, padded, packed_in, moved_frame, moved_header, renumbered_in}
 use Rattle.rules.specs.TwoTables.{refuse, two_outcome, after_both}
 use Rattle.rules.specs.Move.{transfer, transfer_step}
-use Rattle.rules.proofs.Laws.Lists.{In}
 use Rattle.rules.proofs.Laws.Move.{Fitting}
 use Rattle.rules.proofs.Laws.Moving
 use Rattle.rules.proofs.Laws.Working.{view, Working}
-use Rattle.rules.proofs.Laws.Soundness.{Shaped, shaped_of}
+use Rattle.rules.proofs.Laws.Soundness.{shaped_of}
 use Rattle.rules.proofs.Laws.Safe.{working, safe}
 use Rattle.rules.proofs.Laws.Past.{past-shared}
 use Rattle.rules.proofs.Laws.Order.{Listed, frames_listed, classes_listed}

@@ -26,15 +26,13 @@ fn lay(elems: &mut [u64], shared: &mut [u64], headers: &[u64], runs: u64)
     requires { Layable runs elems.old shared.old headers.now }
     ensures { Laid runs elems.old shared.old headers.now elems.new shared.new }
 {
-    let mut k: u64 = 0;
     let mut at: u64 = 1;
-    while k < runs {
+    for k in 0..runs {
         let class = get(elems, FRAME, CLASS, at);
         let count = get(headers, HEADER, COUNT, class);
         copy_row(shared, k + 1, headers, class, HEADER);
         fill(elems, at, count, k + 1);
         at += count;
-        k += 1;
     }
 }
 
