@@ -27,20 +27,16 @@ use Rattle.rules.proofs.Laws.Working.{view}
 use Rattle.rules.proofs.Laws.Safe.{LiveSlot, safe, working}
 use Rattle.rules.proofs.Laws.Remove.{remove_keeps}
 use Rattle.rules.proofs.Laws.Drained.{onward}
-use Rattle.slots.proofs.Places.{puts, row_puts}
 use Rattle.slots.specs.Asked.{OnLive}
 use Rattle.drains.specs.Asked.{Run}
 use Rattle.rings.proofs.Written.{written_next}
 use Rattle.rings.proofs.Ways.{written_3, written_7, written-done}
 
--- a record's fields are stored one after another
-pub record_puts : (t : List ℕ) (place a b c : ℕ) (r : Rest) (over : Bool) (last value : ℕ) → last ∷ value ∷ [] ≡ rest_fields r → 1 ≤ place
-    → row record_width t place (a ∷ b ∷ c ∷ rest_fields r ++ (if over then 1 else 0) ∷ []) ≡ puts record_width t place 0 (a ∷ b ∷ c ∷ last ∷ value ∷ from_bool over ∷ [])
-record_puts t place a b c r over last value e h = go over
-  where
-    go : (f : Bool) → row record_width t place (a ∷ b ∷ c ∷ rest_fields r ++ (if f then 1 else 0) ∷ []) ≡ puts record_width t place 0 (a ∷ b ∷ c ∷ last ∷ value ∷ from_bool f ∷ [])
-    go true = rw (← e) (row_puts record_width t place (a ∷ b ∷ c ∷ last ∷ value ∷ 1 ∷ []) h)
-    go false = rw (← e) (row_puts record_width t place (a ∷ b ∷ c ∷ last ∷ value ∷ 0 ∷ []) h)
+-- a record's fields
+pub record_of : (a b c : ℕ) (r : Rest) (over : Bool) (last value : ℕ) → last ∷ value ∷ [] ≡ rest_fields r
+    → a ∷ b ∷ c ∷ last ∷ value ∷ from_bool over ∷ [] ≡ a ∷ b ∷ c ∷ rest_fields r ++ (if over then 1 else 0) ∷ []
+record_of a b c r true last value e = rw (← e)
+record_of a b c r false last value e = rw (← e)
 
 record_long : (st : State) (x : ℕ) → length (drain_record st x) ≡ record_width
 record_long st x = go (rest_of st x) x (key_at st x).generation (payload_of st.elems x) (if overflows st then 1 else 0)

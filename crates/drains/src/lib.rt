@@ -8,13 +8,12 @@ ghost use Rattle.rules.specs.Drains.{record_width, rest_fields};
 ghost use Rattle.rules.specs.Calls as calls;
 ghost use Rattle.rules.specs.Calls.{Ready, step};
 ghost use Rattle.rules.specs.Answers.{one_value, after};
-ghost use Rattle.slots.specs.Asked.{Within};
-ghost use Rattle.slots.specs.Asked.{OnLive};
+ghost use Rattle.slots.specs.Asked.{Within, OnLive};
 ghost use Rattle.drains.specs.Asked.{Drains};
 ghost use Rattle.drains.specs.Answered.{Gone, Drained};
 
 use removes::remove_at;
-use rings::lists::size_at;
+use rings::lists::{size_at, write_place};
 use rules::{FRAME, GENERATION, Head, Key, NEXT, Refusal, Removed, Rest, Step};
 
 // Numbers to a record (docs/LAYOUT.md); in the rules, record_width.
@@ -29,12 +28,11 @@ fn write_record(out: &mut [u64], place: u64, slot: u64, generation: u64, gone: R
         Rest::GoesOn => (0, 0),
         Rest::Last(was) => (1, was),
     };
-    slots::put(out, RECORD_WIDTH, place, 0, slot);
-    slots::put(out, RECORD_WIDTH, place, 1, generation);
-    slots::put(out, RECORD_WIDTH, place, 2, gone.payload);
-    slots::put(out, RECORD_WIDTH, place, 3, last);
-    slots::put(out, RECORD_WIDTH, place, 4, value);
-    slots::put(out, RECORD_WIDTH, place, 5, u64::from(over));
+    write_place(
+        out,
+        place,
+        [slot, generation, gone.payload, last, value, u64::from(over)],
+    );
 }
 
 // The frame in `x` is taken out, and its record written at a place.
