@@ -1,74 +1,51 @@
-// Keys that the door says or writes, held to the frames that the Rust named. A key is kept for each frame as it is given:
-// 256 slots, then 256 generations.
+// Keys that the door says or writes, held to the frames that the Rust named.
 #![tactic(auto)]
 
-ghost use Rattle.std.specs.Prelude.{ℕ, ◌≤◌, ◌≡◌};
-ghost use Rattle.sample.specs.Sample.{answer_at, key_of, JoinsAs, JoinedAs, KeyAt, RingOf, ListsAs, ListedAs, DrainsAs, DrainedAs, OnlyIf};
+ghost use Rattle.std.specs.Prelude.{◌≤◌, ◌<◌, ◌≡◌, ◌^◌, Some, IfSome};
+ghost use Rattle.sample.specs.Sample.{answer_at, key_of, key_at, JoinsAs, JoinedAs, RingOf, ListsAs, ListedAs, DrainsAs, DrainedAs, OnlyIf};
 
+use names::Given;
 use rules::{Joined, Key, Number};
-use sample::{COUNT, FIRST, REFUSED, is_answer, is_refused, number};
+use sample::Record;
 
-pub fn wide(x: u8) -> usize
-    ensures { result ≡ x }
+// Numbers to a key that `list` wrote, and to a frame that `drain` wrote.
+const LISTED: usize = 2;
+
+const DRAINED: usize = 6;
+
+// The key at a place of what was written.
+fn key_at(written: &[u64], at: usize) -> Option<Key>
+    requires { at < 2 ^ 32 }
+    ensures { IfSome result (λ key. key ≡ key_at written.now at) }
 {
-    x as usize
+    let slot = *written.get(at)?;
+    let generation = *written.get(at + 1)?;
+    Some(Key { slot, generation })
 }
 
-// The key that a frame was given.
-pub fn key(given: &[u64; 512], frame: u8) -> Key
-    ensures { result ≡ key_of given.now frame }
+// A key is that of an answer's frame.
+fn is_key(at: usize, key: Key, given: &Given, sample: &Record) -> bool
+    ensures { OnlyIf (Some key ≡ key_of given.now.keys (answer_at sample.now.bytes at)) result }
 {
-    let at = wide(frame);
-    Key {
-        slot: given[at],
-        generation: given[at + 256],
-    }
-}
-
-// A key that was written is that of the answer's frame.
-fn is_key(i: usize, at: usize, written: &[u64], given: &[u64; 512], sample: &[u8; 32]) -> bool
-    ensures { OnlyIf (KeyAt written.now at (key_of given.now (answer_at sample.now i))) result }
-{
-    if 21 <= i {
+    let Some(frame) = sample.answer(at) else {
         return false;
+    };
+    match given.key(frame) {
+        Some(wanted) => key.slot == wanted.slot && key.generation == wanted.generation,
+        None => false,
     }
-    if 120 < at {
-        return false;
-    }
-    if written.len() < at + 2 {
-        return false;
-    }
-    let wanted = key(given, sample[FIRST + i]);
-    if written[at] != wanted.slot {
-        return false;
-    }
-    if written[at + 1] != wanted.generation {
-        return false;
-    }
-    true
 }
 
 // Keys that were written, `width` numbers apart, are those of the answer's frames.
-fn is_ring(
-    count: usize,
-    width: usize,
-    written: &[u64],
-    given: &[u64; 512],
-    sample: &[u8; 32],
-) -> bool
+fn is_ring(count: u8, width: usize, written: &[u64], given: &Given, sample: &Record) -> bool
     requires { width ≤ 6 }
-    ensures { OnlyIf (RingOf count width written.now given.now sample.now) result }
+    ensures { OnlyIf (RingOf count width written.now given.now.keys sample.now.bytes) result }
 {
-    let mut i: usize = 0;
-    let mut at: usize = 0;
-    while i < count {
-        if 120 < at {
+    for i in 0..usize::from(count) {
+        let Some(key) = key_at(written, i * width) else {
             return false;
-        }
-        if is_key(i, at, written, given, sample) {
-            i += 1;
-            at += width;
-        } else {
+        };
+        if !is_key(i, key, given, sample) {
             return false;
         }
     }
@@ -76,88 +53,62 @@ fn is_ring(
 }
 
 // A union: the value that was, the kept key, and how many frames moved.
-pub fn is_joined(answer: Joined, given: &[u64; 512], sample: &[u8; 32]) -> bool
-    ensures { OnlyIf (JoinedAs answer given.now sample.now) result }
+pub fn is_joined(answer: Joined, given: &Given, sample: &Record) -> bool
+    ensures { OnlyIf (JoinedAs answer given.now.keys sample.now.bytes) result }
 {
     match answer {
         Joined::Into { was, kept, moved } => is_union(was, kept, moved, given, sample),
-        Joined::Refused(refusal) => is_refused(refusal, sample),
+        Joined::Refused(refusal) => sample.is_refused(refusal),
     }
 }
 
-fn is_union(was: u64, kept: Key, moved: u64, given: &[u64; 512], sample: &[u8; 32]) -> bool
-    ensures { OnlyIf (JoinsAs was kept moved given.now sample.now) result }
+fn is_union(was: u64, kept: Key, moved: u64, given: &Given, sample: &Record) -> bool
+    ensures { OnlyIf (JoinsAs was kept moved given.now.keys sample.now.bytes) result }
 {
-    if sample[REFUSED] != 0 {
-        return false;
-    }
-    let wanted = key(given, sample[FIRST + 1]);
-    if kept.slot != wanted.slot {
-        return false;
-    }
-    if kept.generation != wanted.generation {
-        return false;
-    }
-    if was != number(sample[FIRST]) {
-        return false;
-    }
-    if moved != number(sample[FIRST + 2]) {
-        return false;
-    }
-    true
+    sample.is_answer(0, was) && is_key(1, kept, given, sample) && sample.is_answer(2, moved)
 }
 
 // A list: as many keys as the record has answers.
-pub fn is_list(answer: Number, places: &[u64], given: &[u64; 512], sample: &[u8; 32]) -> bool
-    ensures { OnlyIf (ListedAs answer places.now given.now sample.now) result }
+pub fn is_list(answer: Number, written: &[u64], given: &Given, sample: &Record) -> bool
+    ensures { OnlyIf (ListedAs answer written.now given.now.keys sample.now.bytes) result }
 {
     match answer {
-        Number::Is(n) => is_listed(n, places, given, sample),
-        Number::Refused(refusal) => is_refused(refusal, sample),
+        Number::Is(n) => is_listed(n, written, given, sample),
+        Number::Refused(refusal) => sample.is_refused(refusal),
     }
 }
 
-fn is_listed(n: u64, places: &[u64], given: &[u64; 512], sample: &[u8; 32]) -> bool
-    ensures { OnlyIf (ListsAs n places.now given.now sample.now) result }
+fn is_listed(n: u64, written: &[u64], given: &Given, sample: &Record) -> bool
+    ensures { OnlyIf (ListsAs n written.now given.now.keys sample.now.bytes) result }
 {
-    if sample[REFUSED] != 0 {
-        return false;
-    }
-    let count = sample[COUNT];
-    if n != number(count) {
-        return false;
-    }
-    is_ring(wide(count), 2, places, given, sample)
+    let count = sample.count();
+    sample.is_accepted() && n == u64::from(count) && is_ring(count, LISTED, written, given, sample)
 }
 
 // A drain: the ring, frame by frame, then its value.
-pub fn is_drained(answer: Number, places: &[u64], given: &[u64; 512], sample: &[u8; 32]) -> bool
-    ensures { OnlyIf (DrainedAs answer places.now given.now sample.now) result }
+pub fn is_drained(answer: Number, written: &[u64], given: &Given, sample: &Record) -> bool
+    ensures { OnlyIf (DrainedAs answer written.now given.now.keys sample.now.bytes) result }
 {
     match answer {
-        Number::Is(n) => is_drain(n, places, given, sample),
-        Number::Refused(refusal) => is_refused(refusal, sample),
+        Number::Is(n) => is_drain(n, written, given, sample),
+        Number::Refused(refusal) => sample.is_refused(refusal),
     }
 }
 
-fn is_drain(n: u64, places: &[u64], given: &[u64; 512], sample: &[u8; 32]) -> bool
-    ensures { OnlyIf (DrainsAs n places.now given.now sample.now) result }
+fn is_drain(n: u64, written: &[u64], given: &Given, sample: &Record) -> bool
+    ensures { OnlyIf (DrainsAs n written.now given.now.keys sample.now.bytes) result }
 {
-    if n == 0 {
+    let Some(count) = sample.count().checked_sub(1) else {
         return false;
-    }
-    if 16 < n {
+    };
+    let frames = usize::from(count);
+    let Some(last) = (frames * DRAINED).checked_sub(2) else {
         return false;
-    }
-    if places.len() < 96 {
+    };
+    let Some(value) = written.get(last) else {
         return false;
-    }
-    if n + 1 != number(sample[COUNT]) {
-        return false;
-    }
-    let count = n as usize;
-    if is_answer(count, places[count * 6 - 2], sample) {
-        return is_ring(count, 6, places, given, sample);
-    }
-    false
+    };
+    n == u64::from(count)
+        && sample.is_answer(frames, *value)
+        && is_ring(count, DRAINED, written, given, sample)
 }

@@ -1,5 +1,5 @@
 -- What a record of the sample says of a call: the refusal and the answers (rust/differential/src/sample.rs).
-use Rattle.std.specs.Prelude.{ℕ, ◌+◌, ◌*◌, ◌-◌, ◌<◌, ◌≡◌, Bool, true, false, List, [], ◌∷◌, get_or}
+use Rattle.std.specs.Prelude.{ℕ, ◌+◌, ◌*◌, ◌-◌, ◌<◌, ◌≡◌, Bool, true, false, List, [], ◌∷◌, Option, Some, None, get_or}
 use Rattle.rules.specs.declared.Key.{Key}
 use Rattle.rules.specs.declared.Joined.{Joined}
 use Rattle.rules.specs.declared.Joined.TheVariants as joined
@@ -40,50 +40,51 @@ abbrev pub removed_answers : Removed → Said
 removed_answers (removed.Out payload others) = said_accepted (payload ∷ rest_answers others) false
 removed_answers (removed.Refused r) = said_refused r
 
--- ---- keys: in the sample a frame has a number, and a key is kept for each as it is given, 256 slots and then 256 generations
+-- ---- keys: in the sample a frame has a number, and a key is kept for each as it is given
 
-abbrev pub key_of : (given : List ℕ) (frame : ℕ) → Key
-key_of given frame = record { slot = get_or given frame 0; generation = get_or given (frame + 256) 0 }
+abbrev pub key_of : (given : List (Option Key)) (frame : ℕ) → Option Key
+key_of given frame = get_or given frame None
 
 -- union: the value that was, the kept key, told as its frame, and how many frames moved
-pub record JoinsAs (was : ℕ) (kept : Key) (moved : ℕ) (given sample : List ℕ) : Type 0 where
+pub record JoinsAs (was : ℕ) (kept : Key) (moved : ℕ) (given : List (Option Key)) (sample : List ℕ) : Type 0 where
   pub accepted : 0 ≡ refusal_of sample
   pub value : was ≡ answer_at sample 0
-  pub slot : kept.slot ≡ (key_of given (answer_at sample 1)).slot
-  pub generation : kept.generation ≡ (key_of given (answer_at sample 1)).generation
+  pub key : Some kept ≡ key_of given (answer_at sample 1)
   pub frames : moved ≡ answer_at sample 2
 
-abbrev pub JoinedAs : Joined → (given sample : List ℕ) → Type 0
+abbrev pub JoinedAs : Joined → (given : List (Option Key)) (sample : List ℕ) → Type 0
 JoinedAs (joined.Into was kept moved) given sample = JoinsAs was kept moved given sample
 JoinedAs (joined.Refused r) given sample = Agrees (said_refused r) sample
 
 -- a frame's key stands at a place of what was written
-pub record KeyAt (written : List ℕ) (at : ℕ) (key : Key) : Type 0 where
-  pub slot : get_or written at 0 ≡ key.slot
-  pub generation : get_or written (at + 1) 0 ≡ key.generation
+abbrev pub key_at : (written : List ℕ) (at : ℕ) → Key
+key_at written at = record { slot = get_or written at 0; generation = get_or written (at + 1) 0 }
+
+abbrev pub KeyAt : (written : List ℕ) (at : ℕ) (key : Option Key) → Type 0
+KeyAt written at key = Some (key_at written at) ≡ key
 
 -- a ring: the keys of the first `count` answers, in their order, `width` numbers apart
-abbrev pub RingOf : (count width : ℕ) (written given sample : List ℕ) → Type 0
+abbrev pub RingOf : (count width : ℕ) (written : List ℕ) (given : List (Option Key)) (sample : List ℕ) → Type 0
 RingOf count width written given sample = (i : ℕ) → i < count → KeyAt written (i * width) (key_of given (answer_at sample i))
 
 -- list: the ring, which is all that the record answers
-pub record ListsAs (n : ℕ) (written given sample : List ℕ) : Type 0 where
+pub record ListsAs (n : ℕ) (written : List ℕ) (given : List (Option Key)) (sample : List ℕ) : Type 0 where
   pub accepted : 0 ≡ refusal_of sample
   pub count : n ≡ count_of sample
   pub ring : RingOf n 2 written given sample
 
-abbrev pub ListedAs : Number → (written given sample : List ℕ) → Type 0
+abbrev pub ListedAs : Number → (written : List ℕ) (given : List (Option Key)) (sample : List ℕ) → Type 0
 ListedAs (number.Is n) written given sample = ListsAs n written given sample
 ListedAs (number.Refused r) written given sample = Agrees (said_refused r) sample
 
 -- drain: the ring, and then the run's value, which the last record has
-pub record DrainsAs (n : ℕ) (written given sample : List ℕ) : Type 0 where
+pub record DrainsAs (n : ℕ) (written : List ℕ) (given : List (Option Key)) (sample : List ℕ) : Type 0 where
   pub accepted : 0 ≡ refusal_of sample
   pub count : n + 1 ≡ count_of sample
   pub value : get_or written (n * 6 - 2) 0 ≡ answer_at sample n
   pub ring : RingOf n 6 written given sample
 
-abbrev pub DrainedAs : Number → (written given sample : List ℕ) → Type 0
+abbrev pub DrainedAs : Number → (written : List ℕ) (given : List (Option Key)) (sample : List ℕ) → Type 0
 DrainedAs (number.Is n) written given sample = DrainsAs n written given sample
 DrainedAs (number.Refused r) written given sample = Agrees (said_refused r) sample
 
