@@ -29,15 +29,15 @@ pub fn last(pool: Pool, t: &[u64], width: u64, used: u64) -> u64
     0
 }
 
-// The slot `place` becomes what `slot` is in the other table.
+// The slot `place` becomes what `slot` is in the other table. Kept as a loop: copy_from_slice would call memmove, and the archive calls no C function but memset (docs/TRUST.md).
 pub fn copy_row(to: &mut [u64], place: u64, from: &[u64], slot: u64, width: u64)
     requires { Within width to.old place × Within width from.now slot }
     ensures { Rowed width to.old place from.now slot to.new }
 {
-    let size = width as usize;
-    let start = ((place - 1) * width) as usize;
-    let first = ((slot - 1) * width) as usize;
-    to[start..start + size].copy_from_slice(&from[first..first + size]);
+    for field in 0..width {
+        let value = get(from, width, field, slot);
+        put(to, width, place, field, value);
+    }
 }
 
 // One slot: a live one is copied; a free one names the free one above it, and is answered.
