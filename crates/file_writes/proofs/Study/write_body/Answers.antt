@@ -1,7 +1,7 @@
 use Rattle.rules.proofs.Laws.Safe.{safe}
 use native.Mathlib.Omega.{arith}
 use Rattle.file_writes.proofs.Runs.{frame-cell, header-cell, body_end, body-room, body-written, run-walk}
-use Rattle.file_writes.proofs.write_body.Goals as goal
+use Rattle.file_writes.proofs.Study.write_body.Goals as goal
 
 pub get-class-requires : goal.get-class-requires
 get-class-requires c = frame-cell _ c.requires.0 _ c.requires.1 2 (omega arith)

@@ -1,7 +1,7 @@
 use mathlib.Core.Path.{refl}
 use native.Mathlib.Omega.{arith}
 use Rattle.file_writes.proofs.Runs.{frame-cell, header-cell, count_small, body_end}
-use Rattle.file_writes.proofs.body_length.Goals as goal
+use Rattle.file_writes.proofs.Study.body_length.Goals as goal
 
 pub get-class-requires : goal.get-class-requires
 get-class-requires c = frame-cell _ c.requires.0 _ c.requires.1 2 (omega arith)

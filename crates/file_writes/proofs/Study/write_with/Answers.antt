@@ -1,6 +1,6 @@
 use Rattle.file_writes.proofs.Whole.{fits-still}
 use Rattle.file_writes.proofs.Scan.{none-met}
-use Rattle.file_writes.proofs.write_with.Goals as goal
+use Rattle.file_writes.proofs.Study.write_with.Goals as goal
 
 pub write_contents-requires : goal.write_contents-requires
 write_contents-requires g c = (c.requires.0, none-met _ _ c.requires.2, c.requires.1)

@@ -3,7 +3,10 @@ use Prim.Native.Nat.{◌+◌}
 use native.Mathlib.Omega.{arith}
 use Rattle.rules.proofs.Laws.Safe.{safe}
 use Rattle.file_writes.proofs.Scan.{begins-free, begins-seen, begins-first, class-some, class-room}
-use Rattle.file_writes.proofs.begins.Goals as goal
+use Rattle.file_writes.proofs.Study.begins.Goals as goal
+
+pub overflow_add-x : goal.overflow_add-x
+overflow_add-x c = let s = safe _ c.requires.ready in record { fits = omega (arith, c.requires.some, s.elems.pool.within, s.elems.pool.small) }
 
 pub get-requires : goal.get-requires
 get-requires c = let s = safe _ c.requires.ready in record { some = omega arith; inside = omega (arith, c.requires.some); field = omega arith }
