@@ -2,13 +2,13 @@
 // (Running against the Rust).
 #![tactic(auto)]
 
-ghost use Rattle.std.specs.Prelude.{◌≡◌, false, IfSome};
+ghost use Rattle.std.specs.Prelude.{◌≡◌, IfSome};
 ghost use Rattle.rules.specs.Refusals.{said_refused};
-ghost use Rattle.rules.specs.Answers.{said_done, said_number, said_same};
+ghost use Rattle.rules.specs.Answers.{said, no_values, one_value, yes_or_no, old_values};
 ghost use Rattle.sample.specs.Sample.{refusal_of, count_of, answer_at, Listed, Agrees, rest_answers, removed_answers, OnlyIf};
 
 use numbers::answers::number_of;
-use rules::{Done, Number, Refusal, Removed, Rest, Same};
+use rules::{Refusal, Removed, Rest};
 
 // Places in a record: the refusal, how many answers, the first answer.
 const REFUSED: usize = 9;
@@ -61,43 +61,54 @@ impl Record {
     }
 
     // One number.
-    pub fn is_number(&self, answer: Number) -> bool
-        ensures { OnlyIf (Agrees (said_number answer false) self.now.bytes) result }
+    pub fn is_number(&self, answer: Result<u64, Refusal>) -> bool
+        ensures { OnlyIf (Agrees (said one_value answer) self.now.bytes) result }
     {
         match answer {
-            Number::Is(n) => self.is_answer(0, n),
-            Number::Refused(refusal) => self.is_refused(refusal),
+            Ok(n) => self.is_answer(0, n),
+            Err(refusal) => self.is_refused(refusal),
         }
     }
 
     // An answer that has no values.
-    pub fn is_done(&self, answer: Done) -> bool
-        ensures { OnlyIf (Agrees (said_done answer false) self.now.bytes) result }
+    pub fn is_done(&self, answer: Result<(), Refusal>) -> bool
+        ensures { OnlyIf (Agrees (said no_values answer) self.now.bytes) result }
     {
         match answer {
-            Done::Done => self.is_accepted(),
-            Done::Refused(refusal) => self.is_refused(refusal),
+            Ok(()) => self.is_accepted(),
+            Err(refusal) => self.is_refused(refusal),
         }
     }
 
     // Yes or no.
-    pub fn is_same(&self, answer: Same) -> bool
-        ensures { OnlyIf (Agrees (said_same answer) self.now.bytes) result }
+    pub fn is_same(&self, answer: Result<bool, Refusal>) -> bool
+        ensures { OnlyIf (Agrees (said yes_or_no answer) self.now.bytes) result }
+    {
+        self.is_number(answer.map(u64::from))
+    }
+
+    // Four old values, in key order.
+    pub fn is_old(&self, answer: Result<[u64; 4], Refusal>) -> bool
+        ensures { OnlyIf (Agrees (said old_values answer) self.now.bytes) result }
     {
         match answer {
-            Same::Yes => self.is_answer(0, 1),
-            Same::No => self.is_answer(0, 0),
-            Same::Refused(refusal) => self.is_refused(refusal),
+            Ok(old) => {
+                self.is_answer(0, old[0])
+                    && self.is_answer(1, old[1])
+                    && self.is_answer(2, old[2])
+                    && self.is_answer(3, old[3])
+            }
+            Err(refusal) => self.is_refused(refusal),
         }
     }
 
     // A removal: the payload, and the rest of the run.
-    pub fn is_removed(&self, answer: Removed) -> bool
-        ensures { OnlyIf (Agrees (removed_answers answer) self.now.bytes) result }
+    pub fn is_removed(&self, answer: Result<Removed, Refusal>) -> bool
+        ensures { OnlyIf (Agrees (said removed_answers answer) self.now.bytes) result }
     {
         match answer {
-            Removed::Out { payload, rest } => self.is_answer(0, payload) && self.is_rest(rest),
-            Removed::Refused(refusal) => self.is_refused(refusal),
+            Ok(removed) => self.is_answer(0, removed.payload) && self.is_rest(removed.rest),
+            Err(refusal) => self.is_refused(refusal),
         }
     }
 
