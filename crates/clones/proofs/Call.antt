@@ -1,14 +1,14 @@
 -- The call: refused 5 or 6 with nothing changed, or accepted with both tables copied.
+use Rattle.std.specs.Prelude.{Ok, Err, ⊤}
 use mathlib.Core.Path.{◌≡◌}
 use mathlib.Core.Bool.{true, false}
 use mathlib.Core.List.{List}
-use Prim.Native.Nat.{ℕ, ◌*◌, ◌≤◌, ◌<◌}
+use Prim.Native.Nat.{ℕ, ◌≤◌, ◌<◌}
 use native.Mathlib.Omega.{arith}
 use Rattle.rules.specs.declared.Pool.{Pool}
-use Rattle.rules.specs.declared.HeadDone.{HeadDone}
-use Rattle.rules.specs.declared.Done.TheVariants as done
+use Rattle.rules.specs.declared.Step.{Step}
 use Rattle.rules.specs.declared.Refusal.TheVariants.{NoElement, NoShared}
-use Rattle.rules.specs.Tables.{most_slots, frame_width, header_width, frame_at, header_at, blank, State, state_of, elem_side, shared_side}
+use Rattle.rules.specs.Tables.{frame_width, header_width, frame_at, header_at, blank, State, elem_side, shared_side}
 use Rattle.rules.specs.Refusals.{shaped}
 use Rattle.rules.specs.Calls.{Ready}
 use Rattle.rules.specs.TwoTables.{after_target}
@@ -26,17 +26,17 @@ module _ (to of : State) where
   abbrev b : ℕ
   b = to.head.shared.capacity
 
-  pub clone_5 : (n : ℕ) → n ≡ last_live (elem_side of) → to.head.elems.capacity < n → (r : HeadDone) → r ≡ record { head = to.head; answer = done.Refused NoElement; over = false } → after_target r to.elems to.shared of ≡ clone_step to of
-  clone_5 n e h r q = rw (q, Copying.clone_5 to of (rw e at h))
+  pub clone_5 : (n : ℕ) → n ≡ last_live (elem_side of) → to.head.elems.capacity < n → after_target to.head (Err NoElement) to.elems to.shared of ≡ clone_step to of
+  clone_5 n e h = rw (Copying.clone_5 to of (rw e at h))
 
   pub clone_6 : (n m : ℕ) → n ≡ last_live (elem_side of) → n ≤ to.head.elems.capacity → m ≡ last_live (shared_side of) → to.head.shared.capacity < m
-      → (r : HeadDone) → r ≡ record { head = to.head; answer = done.Refused NoShared; over = false } → after_target r to.elems to.shared of ≡ clone_step to of
-  clone_6 n m e l p h r q = rw (q, Copying.clone_6 to of (rw e at l) (rw p at h))
+      → after_target to.head (Err NoShared) to.elems to.shared of ≡ clone_step to of
+  clone_6 n m e l p h = rw (Copying.clone_6 to of (rw e at l) (rw p at h))
 
   pub cloned_is : (n m : ℕ) → n ≡ last_live (elem_side of) → n ≤ to.head.elems.capacity → m ≡ last_live (shared_side of) → m ≤ to.head.shared.capacity
       → (p q : Pool) (e s : List ℕ) → p ≡ copied_pool a (elem_side of) → q ≡ copied_pool b (shared_side of) → e ≡ copied_table a (elem_side of) → s ≡ copied_table b (shared_side of)
-      → after_target (record { head = record { elems = p; shared = q; generation = of.head.generation; undo = blank }; answer = done.Done; over = false }) e s of ≡ clone_step to of
-  cloned_is n m x l y k p q e s ep eq ee es = rw (ep, eq, ee, es, Copying.clone_done to of (record { elems = rw x at l; shared = rw y at k }))
+      → (step : Step ⊤) → step ≡ record { head = record { elems = p; shared = q; generation = of.head.generation; undo = blank }; answer = tt; over = false } → after_target to.head (Ok step) e s of ≡ clone_step to of
+  cloned_is n m x l y k p q e s ep eq ee es step is = rw (is, ep, eq, ee, es, Copying.clone_done to of (record { elems = rw x at l; shared = rw y at k }))
 
   -- what the passes ask
   module _ (T : shaped to ≡ true) (R : Ready of) where

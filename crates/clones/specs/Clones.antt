@@ -12,17 +12,17 @@ pub record Scannable (p : Pool) (w : ℕ) (t : List ℕ) (used : ℕ) : Type 0 w
   pub inside : p.extent * w ≤ length t
   pub reads : used < w
 
--- the first `n` fields of the slot `b` are those of `s` in the other table
-pub record Rowed (w : ℕ) (t : List ℕ) (b : ℕ) (from : List ℕ) (s n : ℕ) (t' : List ℕ) : Type 0 where
+-- the fields of the slot `b` are those of `s` in the other table
+pub record Rowed (w : ℕ) (t : List ℕ) (b : ℕ) (from : List ℕ) (s : ℕ) (t' : List ℕ) : Type 0 where
   pub long : length t' ≡ length t
-  pub there : (f : ℕ) → f < n → f < w → cell w t' f b ≡ cell w from f s
+  pub there : (f : ℕ) → f < w → cell w t' f b ≡ cell w from f s
   pub still : (f u : ℕ) → f < w → u ≢ b → cell w t' f u ≡ cell w t f u
 
 -- one slot, with `root` the lowest free slot above it
 pub data CloneOne (w : ℕ) (t from : List ℕ) (used link s root : ℕ) (t' : List ℕ) (r : ℕ) : Type 0 where
   free : cell w from used s ≡ 0 → length t' ≡ length t → cell w t' link s ≡ root → ((f : ℕ) → f < w → f ≢ link → cell w t' f s ≡ 0) → ((f u : ℕ) → f < w → u ≢ s → cell w t' f u ≡ cell w t f u) → r ≡ s
       → CloneOne w t from used link s root t' r
-  live : cell w from used s ≢ 0 → Rowed w t s from s w t' → r ≡ root → CloneOne w t from used link s root t' r
+  live : cell w from used s ≢ 0 → Rowed w t s from s t' → r ≡ root → CloneOne w t from used link s root t' r
 
 -- a sound table, and one with room up to its last live slot
 pub record Clonable (capacity : ℕ) (to : List ℕ) (t : Side) (last : ℕ) : Type 0 where

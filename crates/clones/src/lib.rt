@@ -2,8 +2,7 @@
 // Ported from clone_from_with of surject_arena.rs (triple_arena 0.15.1, NOTICE).
 #![tactic(auto)]
 
-ghost use Rattle.std.specs.Prelude.{◌≡◌, true, false, ℕ, ◌≤◌, ◌<◌};
-ghost use Rattle.rules.specs.declared.Done.TheVariants as done;
+ghost use Rattle.std.specs.Prelude.{◌≡◌, true, ℕ, ◌≤◌, ◌<◌};
 ghost use Rattle.rules.specs.Tables.{most_slots, state_of};
 ghost use Rattle.rules.specs.Refusals.{shaped};
 ghost use Rattle.rules.specs.Calls.{Ready};
@@ -13,9 +12,7 @@ ghost use Rattle.slots.specs.Asked.{Within};
 ghost use Rattle.clones.specs.Clones.{side_of, Scannable, Rowed, CloneOne, Clonable};
 
 use copies::zero;
-use rules::{
-    BLANK, COUNT, Done, FRAME, GENERATION, HEADER, Head, HeadDone, NEXT, NEXT_FREE, Pool, Refusal,
-};
+use rules::{BLANK, COUNT, FRAME, GENERATION, HEADER, Head, NEXT, NEXT_FREE, Pool, Refusal, Step};
 use slots::{get, put};
 
 // The last live slot; 0 if there is none.
@@ -23,13 +20,11 @@ pub fn last(pool: Pool, t: &[u64], width: u64, used: u64) -> u64
     requires { Scannable pool width t.now used }
     ensures { (link : ℕ) → result ≡ last_live (side_of pool t.now width used link) }
 {
-    let mut slot = pool.extent;
-    while 0 < slot {
+    for slot in (1..=pool.extent).rev() {
         let live = get(t, width, used, slot);
         if live != 0 {
             return slot;
         }
-        slot = slot - 1;
     }
     0
 }
@@ -37,14 +32,12 @@ pub fn last(pool: Pool, t: &[u64], width: u64, used: u64) -> u64
 // The slot `place` becomes what `slot` is in the other table.
 pub fn copy_row(to: &mut [u64], place: u64, from: &[u64], slot: u64, width: u64)
     requires { Within width to.old place × Within width from.now slot }
-    ensures { Rowed width to.old place from.now slot width to.new }
+    ensures { Rowed width to.old place from.now slot to.new }
 {
-    let mut field: u64 = 0;
-    while field < width {
-        let value = get(from, width, field, slot);
-        put(to, width, place, field, value);
-        field += 1;
-    }
+    let size = width as usize;
+    let start = ((place - 1) * width) as usize;
+    let first = ((slot - 1) * width) as usize;
+    to[start..start + size].copy_from_slice(&from[first..first + size]);
 }
 
 // One slot: a live one is copied; a free one names the free one above it, and is answered.
@@ -84,11 +77,9 @@ pub fn copy_table(
     requires { Clonable capacity to.old (side_of pool from.now width used link) last }
     ensures { (result ≡ copied_pool capacity (side_of pool from.now width used link)) × (to.new ≡ copied_table capacity (side_of pool from.now width used link)) }
 {
-    let mut slot = last;
     let mut root: u64 = 0;
-    while 0 < slot {
+    for slot in (1..=last).rev() {
         root = copy_slot(to, from, width, used, link, slot, root);
-        slot = slot - 1;
     }
     zero(to, last * width, capacity * width);
     Pool {
@@ -96,17 +87,6 @@ pub fn copy_table(
         extent: last,
         root,
         live: pool.live,
-    }
-}
-
-// Refusals, below the table: nothing changes.
-pub fn refused(head: Head, why: Refusal) -> HeadDone
-    ensures { result ≡ record { head = head; answer = done.Refused why; over = false } }
-{
-    HeadDone {
-        head,
-        answer: Done::Refused(why),
-        over: false,
     }
 }
 
@@ -118,34 +98,31 @@ pub fn clone_from(
     source: Head,
     frames: &[u64],
     headers: &[u64],
-) -> HeadDone
+) -> Result<Step<()>, Refusal>
     requires { (shaped (state_of head elems.old shared.old) ≡ true) × Ready (state_of source frames.now headers.now) }
-    ensures { after_target result elems.new shared.new (state_of source frames.now headers.now) ≡ clone_step (state_of head elems.old shared.old) (state_of source frames.now headers.now) }
+    ensures { after_target head result elems.new shared.new (state_of source frames.now headers.now) ≡ clone_step (state_of head elems.old shared.old) (state_of source frames.now headers.now) }
 {
     let room = head.elems.capacity;
     let pool = source.elems;
     let top = last(pool, frames, FRAME, GENERATION);
     if room < top {
-        return refused(head, Refusal::NoElement);
+        return Err(Refusal::NoElement);
     }
     let places = head.shared.capacity;
     let classes = source.shared;
     let highest = last(classes, headers, HEADER, COUNT);
     if places < highest {
-        return refused(head, Refusal::NoShared);
+        return Err(Refusal::NoShared);
     }
     let copy = copy_table(room, elems, pool, frames, FRAME, GENERATION, NEXT, top);
     let copied = copy_table(
         places, shared, classes, headers, HEADER, COUNT, NEXT_FREE, highest,
     );
-    HeadDone {
-        head: Head {
-            elems: copy,
-            shared: copied,
-            generation: source.generation,
-            undo: BLANK,
-        },
-        answer: Done::Done,
-        over: false,
-    }
+    let next = Head {
+        elems: copy,
+        shared: copied,
+        generation: source.generation,
+        undo: BLANK,
+    };
+    Ok(Step::plain(next, ()))
 }

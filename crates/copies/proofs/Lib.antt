@@ -1,3 +1,2 @@
 -- The loops' invariants: how each begins, goes on and ends.
 pub mod Ring
-pub mod Parts

@@ -2,15 +2,15 @@
 use mathlib.Core.Path.{◌≡◌, refl, sym, ap, ◌∙◌}
 use mathlib.Core.Logic.{◌≢◌, ◌⊎◌, inl, inr}
 use mathlib.Core.List.{List}
-use Prim.Native.Nat.{ℕ, zero, suc, ◌+◌, ◌*◌, ◌≤◌, ◌<◌}
+use Prim.Native.Nat.{ℕ, suc, ◌+◌, ◌≤◌, ◌<◌}
 use native.Mathlib.Omega.{arith}
 use native.Mathlib.Numerals.{add-one}
 use native.Mathlib.Decide.{ℕ_discrete}
 use lib.ListN.{length, get_or}
 use Rattle.rules.specs.Notation.{steps}
-use Rattle.rules.specs.Tables.{most_slots, frame_width, frame_at, cell, put, row, generation_of, payload_of, class_of, next_of, bytes_of}
+use Rattle.rules.specs.Tables.{frame_width, frame_at, cell, put, row, generation_of, payload_of, class_of, next_of, bytes_of}
 use Rattle.rules.specs.Runs.{frame}
-use Rattle.rules.proofs.Laws.Columns.{upd, upd_same, upd_at, upd_other, length-put, length-row, put-at, put_off, row_at}
+use Rattle.rules.proofs.Laws.Columns.{upd, upd_at, upd_other, length-put, length-row, put-at, put_off, row_at}
 use Rattle.rules.proofs.Laws.Steps.{steps-suc}
 use Rattle.rules.specs.ReadFile.{before_in, after_in}
 use Rattle.slots.specs.Asked.{Within}
@@ -19,24 +19,14 @@ use Rattle.copies.specs.Parts.{Holds, Copiable, copied_frame, Copied}
 -- the loop, at the `suc i`-th frame
 pub record Copying (e₀ sc₀ : List ℕ) (x a n g : ℕ) (e sc : List ℕ) (i at : ℕ) : Type 0 where
   pub copied : Copied e₀ sc₀ x a i n g e sc
-  pub copiable : Copiable e₀ sc₀ x a n
   pub here : at ≡ steps (next_of e₀) i x
-  pub high : i ≤ n
 
-pub copying_start : (e sc : List ℕ) (x a n g : ℕ) → Copiable e sc x a n → Copying e sc x a n g e sc 0 x
-copying_start e sc x a n g C = record {
-  copied = record { long = refl; others = λ f h k. refl; hit = λ i h. absurd (omega arith); miss = λ s h. refl; frames = λ i h. absurd (omega arith); still = λ f s h k. refl; wide = refl };
-  copiable = C;
-  here = refl;
-  high = omega arith;
-}
-
-module _ (e₀ sc₀ : List ℕ) (x a n g : ℕ) (e sc : List ℕ) (i at : ℕ) (R : Copying e₀ sc₀ x a n g e sc i at) (l : i < n) where
+module _ (e₀ sc₀ : List ℕ) (x a n g : ℕ) (e sc : List ℕ) (i at : ℕ) (C : Copiable e₀ sc₀ x a n) (R : Copying e₀ sc₀ x a n g e sc i at) (l : i < n) where
   pub copying_at : Within frame_width e at
-  copying_at = rw R.here (record { some = (R.copiable.slots i l).some; inside = rw R.copied.long (R.copiable.slots i l).inside })
+  copying_at = rw R.here (record { some = (C.slots i l).some; inside = rw R.copied.long (C.slots i l).inside })
 
   pub copying_row : Within frame_width sc (a + i + 1)
-  copying_row = record { some = omega arith; inside = rw R.copied.wide (omega (arith, R.copiable.room)) }
+  copying_row = record { some = omega arith; inside = rw R.copied.wide (omega (arith, C.room)) }
 
   -- one more frame
   module _ (vs : List ℕ) (six : length vs ≡ frame_width) (same : vs ≡ copied_frame e₀ x a n g i) where
@@ -86,13 +76,8 @@ module _ (e₀ sc₀ : List ℕ) (x a n g : ℕ) (e sc : List ℕ) (i at : ℕ) 
   unfolding new
   copying_next e' sc' y c p q nx z ey ec en ez ep eq w v = record {
     copied = rw (w, v, add-one) (next-copied (frame g y c p q z) refl same);
-    copiable = R.copiable;
     here = rw (en, add-one, steps-suc, R.copied.others frame_at.next (omega arith) (omega arith), R.here);
-    high = omega arith;
   }
     where
       same : frame g y c p q z ≡ copied_frame e₀ x a n g i
       same = rw (ey, ec, ez, ep, eq, R.copied.others frame_at.payload (omega arith) (omega arith), R.copied.others frame_at.class (omega arith) (omega arith), R.copied.others frame_at.size (omega arith) (omega arith), R.here)
-
-pub copying_done : (e₀ sc₀ : List ℕ) (x a n g : ℕ) (e sc : List ℕ) (i at : ℕ) → Copying e₀ sc₀ x a n g e sc i at → n ≤ i → Copied e₀ sc₀ x a n n g e sc
-copying_done e₀ sc₀ x a n g e sc i at R h = let z : i ≡ n = omega (arith, R.high) in rw z at R.copied

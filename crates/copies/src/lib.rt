@@ -10,6 +10,7 @@ use rules::{CLASS, FRAME, GENERATION, NEXT, PAYLOAD, SIZE};
 use slots::{get, put, write_frame};
 
 // In a block of `n` slots past `a`: the slot before its `i + 1`-th, and the slot after it.
+#[tactic(auto, unfolding(rules::specs::ReadFile::before_in))]
 pub fn before(a: u64, n: u64, i: u64) -> u64
     requires { (a + n ≤ most_slots) × (i < n) }
     ensures { result ≡ before_in a n i }
@@ -20,6 +21,7 @@ pub fn before(a: u64, n: u64, i: u64) -> u64
     a + i
 }
 
+#[tactic(auto, unfolding(rules::specs::ReadFile::after_in))]
 pub fn after(a: u64, n: u64, i: u64) -> u64
     requires { (a + n ≤ most_slots) × (i < n) }
     ensures { result ≡ after_in a n i }
@@ -35,9 +37,8 @@ pub fn copy_ring(elems: &mut [u64], scratch: &mut [u64], x: u64, a: u64, n: u64,
     requires { Copiable elems.old scratch.old x a n }
     ensures { Copied elems.old scratch.old x a n n generation elems.new scratch.new }
 {
-    let mut i: u64 = 0;
     let mut at = x;
-    while i < n {
+    for i in 0..n {
         let payload = get(elems, FRAME, PAYLOAD, at);
         let class = get(elems, FRAME, CLASS, at);
         let next = get(elems, FRAME, NEXT, at);
@@ -56,19 +57,16 @@ pub fn copy_ring(elems: &mut [u64], scratch: &mut [u64], x: u64, a: u64, n: u64,
         );
         put(elems, FRAME, at, GENERATION, 0);
         at = next;
-        i += 1;
     }
 }
 
-// The first `n` numbers of `t` become those of `s`.
+// The first `n` numbers of `t` become those of `s`. Kept as a loop: copy_from_slice would call memmove, and the archive calls no C function but memset (docs/TRUST.md).
 pub fn paste(t: &mut [u64], s: &[u64], n: u64)
     requires { (n ≤ length t.old) × (n ≤ length s.now) }
     ensures { Pasted t.old s.now n t.new }
 {
-    let mut i: u64 = 0;
-    while i < n {
-        t[i as usize] = s[i as usize];
-        i += 1;
+    for i in 0..n as usize {
+        t[i] = s[i];
     }
 }
 
@@ -77,9 +75,5 @@ pub fn zero(t: &mut [u64], start: u64, end: u64)
     requires { (start ≤ end) × (end ≤ length t.old) }
     ensures { Zeroed t.old start end t.new }
 {
-    let mut i = start;
-    while i < end {
-        t[i as usize] = 0;
-        i += 1;
-    }
+    t[start as usize..end as usize].fill(0);
 }

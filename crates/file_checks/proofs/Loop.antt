@@ -1,23 +1,19 @@
 -- The loop over the runs: what was read, and what is left to read.
-use Rattle.std.specs.Prelude.{if◌then◌else◌, ◌==◌}
-use Prim.Native.Nat.{ℕ, zero, suc, ◌+◌, ◌*◌, ◌-◌, ◌≤◌, ◌<◌}
+use Rattle.std.specs.Prelude.{if◌then◌else◌, ◌==◌, None, Some}
+use Prim.Native.Nat.{ℕ, ◌+◌, ◌*◌, ◌-◌, ◌≤◌, ◌<◌}
 use mathlib.Core.Path.{◌≡◌, refl, sym, ap, ◌∙◌, subst}
 use mathlib.Core.Bool.{Bool, true, false, ◌&&◌}
-use mathlib.Core.List.{List, [], ◌∷◌, ◌++◌, map, append_assoc, append-nil}
+use mathlib.Core.List.{List, [], ◌∷◌, ◌++◌, append_assoc, append-nil}
 use native.Mathlib.Omega.{arith}
-use native.Mathlib.Nat.{mul-le-mul_left}
+use native.Mathlib.Nat.{mul-le-mul_left, sub-zero}
 use lib.ListN.{length, drop, length-append, length-drop}
 use lib.Seq.{drop-drop, drop-length}
-use Rattle.rules.specs.Notation.{sum}
-use Rattle.rules.specs.Bytes.{Got, unread, got, Reader, onward, return, reject, value}
-use Rattle.rules.specs.RunFile.{StoredRun, Entry, frame_length, body_length, frame_count, first_body, body, entry, bodies, runs, Parsed, departs, holds, whole, parse}
+use Rattle.rules.specs.Bytes.{Got, unread, got, onward, return, reject, value}
+use Rattle.rules.specs.RunFile.{StoredRun, Entry, frame_length, body_length, frame_count, body, entry, bodies, runs, whole, parse}
 use Rattle.rules.proofs.Laws.Numbers.{number-some}
-use Rattle.rules.proofs.Laws.Fixed.{each, each_step, entry_here, entry_sized, times-some, times_none, Leaves, body_leaves}
-use Rattle.file_checks.specs.declared.Next.{Next}
-use Rattle.file_checks.specs.declared.Next.TheVariants as next
-use Rattle.file_checks.specs.declared.Checked.{Checked}
-use Rattle.file_checks.specs.declared.Checked.TheVariants as checked
-use Rattle.file_checks.specs.Said.{said_run, said_parsed}
+use Rattle.rules.proofs.Laws.Fixed.{each, each_step, entry_here, entry_sized, times-some, times_none, body_leaves}
+use Rattle.file_checks.specs.declared.Body.{Body}
+use Rattle.file_checks.specs.Said.{read_at, said_run, said_parsed}
 
 abbrev pub prepend : List StoredRun → Got (List StoredRun) → Got (List StoredRun)
 prepend done g = onward g (λ rs. return (done ++ rs))
@@ -30,35 +26,37 @@ prepend_more : (done : List StoredRun) (r : StoredRun) (g : Got (List StoredRun)
 prepend_more done r unread = refl
 prepend_more done r (got rs rest) = rw (append_assoc done (r ∷ []) rs)
 
-pub record Passed (b : List ℕ) (v count left entry at frames : ℕ) : Type 0 where
+-- after so many runs: the place after them, and their frames
+pub record Passed (b : List ℕ) (v count i at frames : ℕ) : Type 0 where
   pub done : List StoredRun
-  pub rest : parse v b ≡ whole (prepend done (bodies v at (each 8 entry_here left (drop entry b)) (drop at b)))
-  pub runs : length done + left ≡ count
+  pub rest : parse v b ≡ whole (prepend done (bodies v at (each 8 entry_here (count - i) (drop (8 + i * 8) b)) (drop at b)))
+  pub runs : length done ≡ i
   pub counted : frames ≡ frame_count done
-  pub room : entry + left * 8 ≤ length b
+  pub room : 8 + count * 8 ≤ length b
   pub within : at ≤ length b
   pub few : frames * 12 ≤ at
 
 module _ (b : List ℕ) (v count : ℕ) (long : 8 ≤ length b) (c : count ≡ value 4 (drop 4 b)) where
-  pub too_many : length b - 8 < count * 8 → checked.Departs ≡ said_parsed (parse v b)
+  pub too_many : length b - 8 < count * 8 → None ≡ said_parsed (parse v b)
   unfolding parse runs
   too_many h =
       rw (number-some 4 (drop 4 b) (omega (arith, length-drop 4 b)), drop-drop 4 4 b, ← c, times_none entry 8 entry_here entry_sized count (drop 8 b) (omega (arith, length-drop 8 b)))
 
-  pub passed_first : count * 8 ≤ length b - 8 → Passed b v count count 8 (8 + count * 8) 0
+  pub passed_first : count * 8 ≤ length b - 8 → Passed b v count 0 (8 + count * 8) 0
   unfolding parse runs
   passed_first h =
       record {
         done = [];
         rest = rw (
-          prepend-none (bodies v (8 + count * 8) (each 8 entry_here count (drop 8 b)) (drop (8 + count * 8) b)),
+          prepend-none (bodies v (8 + count * 8) (each 8 entry_here (count - 0) (drop 8 b)) (drop (8 + count * 8) b)),
+          sub-zero count,
           number-some 4 (drop 4 b) (omega (arith, length-drop 4 b)),
           drop-drop 4 4 b,
           ← c,
           times-some entry 8 entry_here entry_sized count (drop 8 b) (omega (arith, length-drop 8 b)),
           drop-drop (count * 8) 8 b,
         );
-        runs = omega arith;
+        runs = refl;
         counted = refl;
         room = omega arith;
         within = omega arith;
@@ -66,48 +64,48 @@ module _ (b : List ℕ) (v count : ℕ) (long : 8 ≤ length b) (c : count ≡ v
       }
 
 -- a body that departs
-bodies-unread : (v at : ℕ) (e : Entry) (es : List Entry) (m : List ℕ) → said_run v at e (body v m) ≡ next.Departs → bodies v at (e ∷ es) m ≡ unread
+bodies-unread : (v at : ℕ) (e : Entry) (es : List Entry) (m : List ℕ) → said_run v at e (body v m) ≡ None → bodies v at (e ∷ es) m ≡ unread
 unfolding bodies
 bodies-unread v at e es m q = go (body v m) q
   where
-    inner : (t : Bool) (r : StoredRun) (rest : List ℕ) → (if t then next.At (at + body_length v r) (length r.frames) else next.Departs) ≡ next.Departs
+    inner : (t : Bool) (r : StoredRun) (rest : List ℕ) → (if t then Some (read_at v at r) else None) ≡ None
         → onward ((if t then bodies v (at + body_length v r) es else reject) rest) (λ rs. return (r ∷ rs)) ≡ unread
     inner true r rest q = absurd (let z : ◌≡◌ {A = ℕ} 0 1 = cc in omega arith)
     inner false r rest q = refl
 
-    go : (g : Got StoredRun) → said_run v at e g ≡ next.Departs
+    go : (g : Got StoredRun) → said_run v at e g ≡ None
         → onward g (λ r. λ rest. onward ((if (e.offset == at) && (e.long == body_length v r) then bodies v (at + body_length v r) es else reject) rest) (λ rs. return (r ∷ rs))) ≡ unread
     go unread q = refl
     go (got r rest) q = inner ((e.offset == at) && (e.long == body_length v r)) r rest q
 
 -- a body that was read
-record Taken (v at : ℕ) (e : Entry) (es : List Entry) (m : List ℕ) (x y : ℕ) : Type 0 where
+record Taken (v at : ℕ) (e : Entry) (es : List Entry) (m : List ℕ) (x : Body) : Type 0 where
   run : StoredRun
-  is : bodies v at (e ∷ es) m ≡ onward (bodies v x es (drop (body_length v run) m)) (λ rs. return (run ∷ rs))
-  long : x ≡ at + body_length v run
-  many : y ≡ length run.frames
+  is : bodies v at (e ∷ es) m ≡ onward (bodies v x.end es (drop (body_length v run) m)) (λ rs. return (run ∷ rs))
+  long : x.end ≡ at + body_length v run
+  many : x.frames ≡ length run.frames
   within : body_length v run ≤ length m
 
-bodies-taken : (v at : ℕ) (e : Entry) (es : List Entry) (m : List ℕ) (x y : ℕ) → said_run v at e (body v m) ≡ next.At x y → Taken v at e es m x y
+bodies-taken : (v at : ℕ) (e : Entry) (es : List Entry) (m : List ℕ) (x : Body) → said_run v at e (body v m) ≡ Some x → Taken v at e es m x
 unfolding bodies
-bodies-taken v at e es m x y q = go (body v m) refl q
+bodies-taken v at e es m x q = go (body v m) refl q
   where
-    inner : (t : Bool) (r : StoredRun) (rest : List ℕ) → (if t then next.At (at + body_length v r) (length r.frames) else next.Departs) ≡ next.At x y
-        → (x ≡ at + body_length v r) × (y ≡ length r.frames) × (onward ((if t then bodies v (at + body_length v r) es else reject) rest) (λ rs. return (r ∷ rs)) ≡ onward (bodies v x es rest) (λ rs. return (r ∷ rs)))
+    inner : (t : Bool) (r : StoredRun) (rest : List ℕ) → (if t then Some (read_at v at r) else None) ≡ Some x
+        → (x.end ≡ at + body_length v r) × (x.frames ≡ length r.frames) × (onward ((if t then bodies v (at + body_length v r) es else reject) rest) (λ rs. return (r ∷ rs)) ≡ onward (bodies v x.end es rest) (λ rs. return (r ∷ rs)))
     inner true r rest q =
-        let p : at + body_length v r ≡ x = cc in
-        let n : length r.frames ≡ y = cc in
+        let p : at + body_length v r ≡ x.end = cc in
+        let n : length r.frames ≡ x.frames = cc in
         (sym p, sym n, rw p)
     inner false r rest q = absurd (let z : ◌≡◌ {A = ℕ} 0 1 = cc in omega arith)
 
-    go : (g : Got StoredRun) → body v m ≡ g → said_run v at e g ≡ next.At x y → Taken v at e es m x y
+    go : (g : Got StoredRun) → body v m ≡ g → said_run v at e g ≡ Some x → Taken v at e es m x
     go unread w q = absurd (let z : ◌≡◌ {A = ℕ} 0 1 = cc in omega arith)
     go (got r rest) w q =
         let l = body_leaves v m r rest w in
         let t = inner ((e.offset == at) && (e.long == body_length v r)) r rest q in
         record {
           run = r;
-          is = rw w (t.2 ∙ ap (λ (k : List ℕ). onward (bodies v x es k) (λ rs. return (r ∷ rs))) l.rest-is);
+          is = rw w (t.2 ∙ ap (λ (k : List ℕ). onward (bodies v x.end es k) (λ rs. return (r ∷ rs))) l.rest-is);
           long = t.0;
           many = t.1;
           within = l.within;
@@ -120,51 +118,54 @@ frame_count-snoc (q ∷ rs) r = omega (arith, frame_count-snoc rs r)
 twelve : (v : ℕ) → 12 ≤ frame_length v
 twelve v = omega arith
 
-module _ {b : List ℕ} {v count left entry at frames : ℕ} (p : Passed b v count left entry at frames) where
-  module _ (h : 0 < left) where
+module _ {b : List ℕ} {v count i at frames : ℕ} (p : Passed b v count i at frames) where
+  module _ (h : i < count) where
     tail : List Entry
-    tail = each 8 entry_here (left - 1) (drop (entry + 8) b)
+    tail = each 8 entry_here (count - (i + 1)) (drop (8 + (i + 1) * 8) b)
 
-    unrolled : parse v b ≡ whole (prepend p.done (bodies v at (entry_here (drop entry b) ∷ tail) (drop at b)))
+    unrolled : parse v b ≡ whole (prepend p.done (bodies v at ((entry_here (drop (8 + i * 8) b)) ∷ tail) (drop at b)))
     unfolding tail
-    unrolled = p.rest ∙ rw (each_step 8 entry_here left (drop entry b) h, drop-drop 8 entry b)
+    unrolled =
+        let n : count - i - 1 ≡ count - (i + 1) = omega arith in
+        let d : 8 + i * 8 + 8 ≡ 8 + (i + 1) * 8 = omega arith in
+        p.rest ∙ rw (each_step 8 entry_here (count - i) (drop (8 + i * 8) b) (omega arith), n, drop-drop 8 (8 + i * 8) b, d)
 
-    pub passed-departs : said_run v at (entry_here (drop entry b)) (body v (drop at b)) ≡ next.Departs → checked.Departs ≡ said_parsed (parse v b)
-    passed-departs q = rw (unrolled, bodies-unread v at (entry_here (drop entry b)) tail (drop at b) q)
+    pub passed-departs : said_run v at (entry_here (drop (8 + i * 8) b)) (body v (drop at b)) ≡ None → None ≡ said_parsed (parse v b)
+    passed-departs q = rw (unrolled, bodies-unread v at (entry_here (drop (8 + i * 8) b)) tail (drop at b) q)
 
-    pub passed-next : (x y : ℕ) → said_run v at (entry_here (drop entry b)) (body v (drop at b)) ≡ next.At x y → Passed b v count (left - 1) (entry + 8) x (frames + y)
+    pub passed-next : (x : Body) → said_run v at (entry_here (drop (8 + i * 8) b)) (body v (drop at b)) ≡ Some x → Passed b v count (i + 1) x.end (frames + x.frames)
     unfolding tail
-    passed-next x y q =
-        let t = bodies-taken v at (entry_here (drop entry b)) tail (drop at b) x y q in
+    passed-next x q =
+        let t = bodies-taken v at (entry_here (drop (8 + i * 8) b)) tail (drop at b) x q in
         let r : StoredRun = t.run in
-        let d : drop (body_length v r) (drop at b) ≡ drop x b = drop-drop (body_length v r) at b ∙ ap (λ (k : ℕ). drop k b) (sym t.long) in
+        let d : drop (body_length v r) (drop at b) ≡ drop x.end b = drop-drop (body_length v r) at b ∙ ap (λ (k : ℕ). drop k b) (sym t.long) in
         let l : length (drop at b) ≡ length b - at = length-drop at b in
         record {
           done = p.done ++ r ∷ [];
-          rest = unrolled ∙ rw (t.is, d) (ap whole (prepend_more p.done r (bodies v x tail (drop x b))));
+          rest = unrolled ∙ rw (t.is, d) (ap whole (prepend_more p.done r (bodies v x.end tail (drop x.end b))));
           runs = omega (arith, p.runs, length-append p.done (r ∷ []));
           counted = omega (arith, p.counted, t.many, frame_count-snoc p.done r);
-          room = omega (arith, p.room);
+          room = p.room;
           within = omega (arith, t.long, t.within, p.within);
           few = omega (arith, p.few, t.long, t.many, mul-le-mul_left (length r.frames) (twelve v));
         }
 
-  passed-last : left ≤ 0 → parse v b ≡ whole (got p.done (drop at b))
+  passed-last : i ≡ count → parse v b ≡ whole (got p.done (drop at b))
   unfolding bodies each
   passed-last h =
-      let z : left ≡ 0 = omega arith in
-      let e : parse v b ≡ whole (got (p.done ++ []) (drop at b)) = subst (λ (k : ℕ). parse v b ≡ whole (prepend p.done (bodies v at (each 8 entry_here k (drop entry b)) (drop at b)))) z p.rest in
+      let z : count - i ≡ 0 = omega arith in
+      let e : parse v b ≡ whole (got (p.done ++ []) (drop at b)) = subst (λ (k : ℕ). parse v b ≡ whole (prepend p.done (bodies v at (each 8 entry_here k (drop (8 + i * 8) b)) (drop at b)))) z p.rest in
       e ∙ rw (append-nil p.done)
 
-  pub passed-whole : left ≤ 0 → at ≡ length b → checked.Holds count frames ≡ said_parsed (parse v b)
+  pub passed-whole : i ≡ count → at ≡ length b → Some (record { runs = count; frames = frames }) ≡ said_parsed (parse v b)
   passed-whole h e =
       let d : drop at b ≡ [] = ap (λ (k : ℕ). drop k b) e ∙ drop-length b in
-      let n : count ≡ length p.done = omega (arith, p.runs) in
+      let n : count ≡ length p.done = omega (arith, h, p.runs) in
       rw (passed-last h, d, n, p.counted)
 
-  pub passed_more : left ≤ 0 → (at ≡ length b → ⊥) → checked.Departs ≡ said_parsed (parse v b)
+  pub passed_more : i ≡ count → (at ≡ length b → ⊥) → None ≡ said_parsed (parse v b)
   passed_more h f = rw (passed-last h) (go (drop at b) refl)
     where
-      go : (m : List ℕ) → drop at b ≡ m → checked.Departs ≡ said_parsed (whole (got p.done m))
+      go : (m : List ℕ) → drop at b ≡ m → None ≡ said_parsed (whole (got p.done m))
       go [] q = absurd (f (omega (arith, p.within, ap length q, length-drop at b)))
       go (x ∷ m) q = refl

@@ -6,23 +6,20 @@ ghost use Rattle.rules.specs.RunFile.{total, frame_length, body, parse};
 ghost use Rattle.rules.proofs.Laws.Fixed.{frames_here, entry_here};
 ghost use Rattle.file_checks.specs.Said.{said_body, said_run, said_parsed};
 
-use littles::{get4, get8};
-
-// Bytes to a frame; in the rules, frame_length.
-const FRAME_LENGTH: usize = 12;
+use littles::{FRAME_LENGTH, get4, get8};
 
 // A body that was read: the place after it, and its number of frames.
 #[derive(Clone, Copy)]
-pub enum Next {
-    At(usize, u64),
-    Departs,
+pub struct Body {
+    pub end: usize,
+    pub frames: u64,
 }
 
 // A file that was read: its numbers of runs and frames.
 #[derive(Clone, Copy)]
-pub enum Checked {
-    Holds(u64, u64),
-    Departs,
+pub struct Held {
+    pub runs: u64,
+    pub frames: u64,
 }
 
 // The sum of the sizes of `n` frames from a place on.
@@ -31,87 +28,79 @@ fn sizes(b: &[u8], at: usize, n: usize) -> u64
     ensures { result ≡ total (frames_here 1 n (drop at b.now)) }
 {
     let mut sum: u64 = 0;
-    let mut left = n;
-    let mut place = at;
-    while 0 < left {
-        sum = sum + get4(b, place + 8);
-        place = place + FRAME_LENGTH;
-        left = left - 1;
+    for i in 0..n {
+        sum += get4(b, at + i * FRAME_LENGTH + 8);
     }
     sum
 }
 
 // A body at a place: its fields, its frames, and their sizes summed.
-fn check_body(b: &[u8], at: usize) -> Next
+fn check_body(b: &[u8], at: usize) -> Option<Body>
     requires { at ≤ length b.now }
     ensures { result ≡ said_body 1 at (body 1 (drop at b.now)) }
 {
     let room = b.len() - at;
     if room < 20 {
-        return Next::Departs;
+        return None;
     }
     let said = get8(b, at + 8);
     let count = get4(b, at + 16);
     let n = count as usize;
     if n == 0 {
-        return Next::Departs;
+        return None;
     }
     let frames = n * FRAME_LENGTH;
     if room - 20 < frames {
-        return Next::Departs;
+        return None;
     }
     let sum = sizes(b, at + 20, n);
-    if said == sum {
-        return Next::At(at + 20 + frames, count);
+    if said != sum {
+        return None;
     }
-    Next::Departs
+    Some(Body {
+        end: at + 20 + frames,
+        frames: count,
+    })
 }
 
 // A body at a place, which its entry in the contents must give, and its length.
-fn check_run(b: &[u8], entry: usize, at: usize) -> Next
+fn check_run(b: &[u8], entry: usize, at: usize) -> Option<Body>
     requires { (at ≤ length b.now) × (entry + 8 ≤ length b.now) }
     ensures { result ≡ said_run 1 at (entry_here (drop entry b.now)) (body 1 (drop at b.now)) }
 {
-    let Next::At(next, frames) = check_body(b, at) else {
-        return Next::Departs;
-    };
+    let body = check_body(b, at)?;
     let offset = get4(b, entry);
     let long = get4(b, entry + 4);
     let begins = at as u64;
-    let ends = next as u64;
-    if offset == begins {
-        if offset + long == ends {
-            return Next::At(next, frames);
-        }
+    let ends = body.end as u64;
+    if offset != begins {
+        return None;
     }
-    Next::Departs
+    if offset + long != ends {
+        return None;
+    }
+    Some(body)
 }
 
 // The whole file: what the rules read in it, from the version on.
-pub fn check_runs(b: &[u8]) -> Checked
+pub fn check_runs(b: &[u8]) -> Option<Held>
     requires { 8 ≤ length b.now }
     ensures { result ≡ said_parsed (parse 1 b.now) }
 {
-    let count = get4(b, 4);
-    let n = count as usize;
+    let runs = get4(b, 4);
+    let n = runs as usize;
     if b.len() - 8 < n * 8 {
-        return Checked::Departs;
+        return None;
     }
-    let mut left = n;
-    let mut entry: usize = 8;
     let mut at = 8 + n * 8;
     let mut frames: u64 = 0;
-    while 0 < left {
-        let Next::At(next, more) = check_run(b, entry, at) else {
-            return Checked::Departs;
-        };
-        at = next;
-        frames = frames + more;
-        entry = entry + 8;
-        left = left - 1;
+    for i in 0..n {
+        let body = check_run(b, 8 + i * 8, at)?;
+        at = body.end;
+        frames += body.frames;
     }
-    if at == b.len() {
-        return Checked::Holds(count, frames);
+    if at != b.len() {
+        return None;
     }
-    Checked::Departs
+    Some(Held { runs, frames })
 }

@@ -2,22 +2,20 @@
 use Rattle.std.specs.Prelude.{if◌then◌else◌}
 use Prim.Native.Nat.{ℕ, zero, suc, ◌+◌, ◌*◌, ◌-◌, ◌≤◌, ◌<◌}
 use mathlib.Core.Path.{◌≡◌, refl, sym, ap, ◌∙◌, subst}
-use mathlib.Core.Logic.{◌≢◌}
 use mathlib.Core.Bool.{Bool, true, false, true≢false}
-use mathlib.Core.List.{List, [], ◌∷◌, ◌++◌, map, append_assoc, append-nil}
+use mathlib.Core.List.{List, [], ◌∷◌, ◌++◌, map, append-nil}
 use native.Mathlib.Omega.{arith}
-use lib.ListN.{length, take, drop, set, length-append, length-map, length-drop}
+use lib.ListN.{length, take, drop, set, length-append, length-drop}
 use lib.Seq.{sets, length-sets, take_all, drop-length, drop-drop}
 use borrow.Rule.Slice.PartMut.{put_mid}
-use Rattle.rules.specs.Notation.{along, flat, keep}
 use Rattle.rules.specs.Tables.{generation_of, State}
 use Rattle.rules.specs.Compress.{is_lowest, lowest_slots}
 use Rattle.rules.specs.Bytes.{little}
-use Rattle.rules.specs.RunFile.{StoredRun, body_bytes, body_length, Entry, entries, entry_bytes, first_body, after_version, file}
-use Rattle.rules.specs.WriteFile.{run_in, runs_in, bytes_in}
+use Rattle.rules.specs.RunFile.{StoredRun, body_bytes, body_length, entries, entry_bytes}
+use Rattle.rules.specs.WriteFile.{run_in, runs_in}
 use Rattle.rules.specs.Calls.{Ready}
 use Rattle.rules.proofs.Laws.Numbers.{length-little}
-use Rattle.rules.proofs.Laws.FileLength.{length-each, length-body, length-entry, length-entries}
+use Rattle.rules.proofs.Laws.FileLength.{length-body}
 use Rattle.rules.proofs.Laws.Order.{Looked, free, first, later, looked}
 use Rattle.rules.proofs.Laws.Safe.{working, LiveSlot}
 use Rattle.file_writes.specs.Writes.{bodies_of, entries_of, lowest_past, runs_from, Marks, Begins, FitsAll}
@@ -109,9 +107,6 @@ module _ {st : State} {seen₀ out₀ : List ℕ} {start : ℕ} {seen out : List
         let u : bodies_of (runs_from st i) ≡ body_bytes 1 r ++ m = ap bodies_of split in
         let g : sets out₁ (at + long) m ≡ sets out at (body_bytes 1 r ++ m) = sets_then out out₁ (sets out₁ (at + long) m) at long (body_bytes 1 r) m (length-body 1 r ∙ sym el) q refl in
         rw d (record { marks = b.marks; wide = w ∙ l.wide; room = omega (arith, l.room, lengths, el, n); rest = g ∙ ap (sets out at) (sym u) ∙ l.rest; long = n ∙ l.long })
-
-pub laying_last : {st : State} {seen₀ out₀ : List ℕ} {start : ℕ} {seen out : List ℕ} {i at : ℕ} → Laying st seen₀ out₀ start seen out i at → st.head.elems.extent ≤ i → out ≡ sets out₀ start (bodies_of (runs_in st))
-laying_last {st} {seen₀} {out₀} {start} {seen} {out} {i} {at} l h = subst (λ (rs : List StoredRun). sets out at (bodies_of rs) ≡ sets out₀ start (bodies_of (runs_in st))) (past_end st i h) l.rest
 
 -- ---- the contents
 

@@ -1,30 +1,25 @@
 -- The runs of a ready state, stored one after another: bodies, contents, and the file.
-use Rattle.std.specs.Prelude.{if◌then◌else◌}
-use Prim.Native.Nat.{ℕ, zero, suc, ◌+◌, ◌*◌, ◌-◌, ◌≤◌, ◌<◌}
+use Prim.Native.Nat.{ℕ, ◌+◌, ◌*◌, ◌≤◌, ◌<◌}
 use mathlib.Core.Path.{◌≡◌, refl, sym, ap, ◌∙◌, subst}
-use mathlib.Core.Bool.{Bool, true, false}
-use mathlib.Core.List.{List, [], ◌∷◌, ◌++◌, map, append_assoc, append-nil}
+use mathlib.Core.List.{List, [], ◌∷◌, ◌++◌, map}
 use native.Mathlib.Omega.{arith}
-use lib.ListN.{length, take, drop, set, length-append, length-map, length-drop}
-use lib.Seq.{sets, length-sets, take_all, drop-length, drop-drop}
-use borrow.Rule.Slice.PartMut.{put_mid}
-use Rattle.rules.specs.Notation.{along, sum, flat, keep}
+use lib.ListN.{length, length-append, length-map}
+use lib.Seq.{sets}
+use Rattle.rules.specs.Notation.{sum, flat}
 use Rattle.rules.specs.Tables.{most_slots, frame_width, header_width, payload_of, class_of, next_of, bytes_of, count_of, value_of, total_of, State, size_at}
 use Rattle.rules.specs.Drains.{ring}
-use Rattle.rules.specs.Compress.{is_lowest, lowest_slots}
 use Rattle.rules.specs.Bytes.{little}
-use Rattle.rules.specs.RunFile.{StoredFrame, StoredRun, total, frame_length, frame_bytes, body_bytes, body_length, Entry, entries, entry_bytes, first_body, after_version, file}
-use Rattle.rules.specs.WriteFile.{frame_in, run_in, runs_in, bytes_in}
+use Rattle.rules.specs.RunFile.{total, frame_length, frame_bytes, body_bytes, body_length}
+use Rattle.rules.specs.WriteFile.{frame_in, run_in}
 use Rattle.rules.specs.Calls.{Ready}
 use Rattle.rules.proofs.Laws.Numbers.{length-little}
-use Rattle.rules.proofs.Laws.FileLength.{length-each, length-body, length-entry, length-entries}
 use Rattle.rules.proofs.Laws.Steps.{length-along}
 use Rattle.rules.proofs.Laws.Working.{view, total-ring}
 use Rattle.rules.proofs.Laws.Soundness.{ring-at}
-use Rattle.rules.proofs.Laws.Safe.{Safe, safe, working, LiveSlot}
+use Rattle.rules.proofs.Laws.Safe.{safe, working, LiveSlot}
 use Rattle.slots.specs.Asked.{Cell, Along}
 use Rattle.slots.proofs.Live.{live_in, header_in, all_in}
-use Rattle.file_writes.specs.Writes.{frames_along, bodies_of, entries_of, lowest_past, runs_from, Marks, Begins, FitsAll}
+use Rattle.file_writes.specs.Writes.{frames_along}
 use Rattle.file_writes.proofs.Frames.{sets_then}
 
 -- ---- a body

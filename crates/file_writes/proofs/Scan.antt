@@ -1,5 +1,5 @@
 -- One slot of the writer's scan: it begins a run exactly if it is live and its class was not met, and then that class is met too.
-use Prim.Native.Nat.{ℕ, zero, suc, ◌+◌, ◌*◌, ◌-◌, ◌≤◌, ◌<◌}
+use Prim.Native.Nat.{ℕ, suc, ◌*◌, ◌-◌, ◌≤◌, ◌<◌}
 use mathlib.Core.Path.{◌≡◌, refl, sym, ap, ◌∙◌, subst}
 use mathlib.Core.Logic.{◌≢◌, ◌⊎◌, inl, inr}
 use mathlib.Core.Bool.{Bool, true, false, true≢false}
@@ -13,7 +13,7 @@ use Rattle.rules.specs.Tables.{generation_of, class_of, State}
 use Rattle.rules.specs.Compress.{is_lowest}
 use Rattle.rules.proofs.Laws.Working.{view, Working}
 use Rattle.rules.proofs.Laws.Order.{Looked, free, first, later, looked, Led, led_more, led_split, not_led, is_led}
-use Rattle.rules.proofs.Laws.Safe.{Safe, safe, working, LiveSlot, SafeFrame}
+use Rattle.rules.proofs.Laws.Safe.{safe, working, LiveSlot, SafeFrame}
 use Rattle.file_writes.specs.Writes.{Marks, Scans, Begins}
 
 -- no class is met before the first slot

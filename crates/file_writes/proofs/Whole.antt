@@ -1,33 +1,29 @@
 -- The whole file, and the call by its two ways.
-use Rattle.std.specs.Prelude.{if◌then◌else◌}
-use Prim.Native.Nat.{ℕ, zero, suc, ◌+◌, ◌*◌, ◌-◌, ◌≤◌, ◌<◌}
-use mathlib.Core.Path.{◌≡◌, refl, sym, ap, ◌∙◌, subst}
+use Prim.Native.Nat.{ℕ, suc, ◌+◌, ◌*◌, ◌≤◌, ◌<◌}
+use mathlib.Core.Path.{◌≡◌, refl, sym, ap, ◌∙◌}
 use mathlib.Core.Bool.{false}
 use mathlib.Core.List.{List, [], ◌∷◌, ◌++◌, append_assoc}
 use native.Mathlib.Omega.{arith}
 use borrow.Author.Tests.{le-leb, lt-leb}
-use lib.ListN.{length, length-append}
+use lib.ListN.{length, drop, length-append}
 use lib.Seq.{sets}
 use Rattle.rules.specs.declared.Refusal.TheVariants.{Short}
 use Rattle.rules.specs.Tables.{most_slots, State}
 use Rattle.rules.specs.Refusals.{outcome, said_accepted, refuse}
 use Rattle.rules.specs.Bytes.{little}
-use Rattle.rules.specs.RunFile.{StoredRun, frame_length, entries, entry_bytes, first_body, after_version, file}
+use Rattle.rules.specs.RunFile.{StoredRun, entries, entry_bytes, after_version, file}
 use Rattle.rules.specs.WriteFile.{runs_in, bytes_in, write_file}
 use Rattle.rules.specs.Calls as calls
 use Rattle.rules.specs.Calls.{Ready, step}
 use Rattle.rules.proofs.Laws.Numbers.{length-little}
 use Rattle.rules.proofs.Laws.FileLength.{length-each, length-entry, length-entries, length-bodies, runs-live, frames-live, bytes-live}
 use Rattle.rules.proofs.Laws.Safe.{safe, working}
-use Rattle.rings.proofs.Written.{written_all}
+use Rattle.std.proofs.lemmas.List.Edits.{sets-eq}
 use Rattle.file_writes.specs.Writes.{bodies_of, entries_of, FitsAll, Filled}
 use Rattle.file_writes.proofs.Frames.{sets_then}
 
 pub fits-still : {st : State} {start : ℕ} {out : List ℕ} → FitsAll st start out → (after : List ℕ) → length after ≡ length out → FitsAll st start after
 fits-still f after e = record { contents = f.contents; bodies = omega (arith, f.bodies, e) }
-
-pub both_filled : (st : State) (start : ℕ) (out out₁ out₂ : List ℕ) → out₁ ≡ sets out 8 (entries_of start (runs_in st)) → out₂ ≡ sets out₁ start (bodies_of (runs_in st)) → Filled st start out out₂
-both_filled st start out out₁ out₂ p q = q ∙ ap (λ (l : List ℕ). sets l start (bodies_of (runs_in st))) p
 
 -- the live numbers are small, and tell the room that is needed
 module _ (st : State) (R : Ready st) where
@@ -77,5 +73,6 @@ module _ (st : State) (R : Ready st) where
   write_done lent out long el h q =
       let e : length (bytes_in 1 st) ≡ 8 + st.head.shared.live * 28 + st.head.elems.live * 12 = bytes-live st (working st R) 1 in
       let s : length (bytes_in 1 st) < suc (length lent) = omega arith in
-      let w : out ≡ bytes_in 1 st ++ _ = q ∙ written_all (bytes_in 1 st) lent (omega arith) in
+      let z : 0 + length (bytes_in 1 st) ≡ length (bytes_in 1 st) = omega arith in
+      let w : out ≡ bytes_in 1 st ++ drop (length (bytes_in 1 st)) lent = q ∙ sets-eq (bytes_in 1 st) lent 0 (rw z (omega arith)) ∙ ap (λ (k : ℕ). bytes_in 1 st ++ drop k lent) z in
       rw (lt-leb _ _ s, w, el, ← e)

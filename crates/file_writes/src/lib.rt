@@ -1,29 +1,23 @@
 // The run file's writer (Ticket 11): the contents, then the bodies into the rest of the lent bytes. Runs are met in canonical order by an upward scan with a set of the classes met.
 #![tactic(auto)]
 
-ghost use Rattle.std.specs.Prelude.{◌≡◌, false, ◌+◌, ◌*◌, ◌≤◌, ◌<◌, length};
+ghost use Rattle.std.specs.Prelude.{◌≡◌, ◌+◌, ◌*◌, ◌≤◌, ◌<◌, length};
 ghost use Rattle.std.proofs.lemmas.List.Edits.{sets};
 ghost use Rattle.rules.specs.Tables.{state_of};
 ghost use Rattle.rules.specs.RunFile.{frame_length, body_length, body_bytes, first_body};
 ghost use Rattle.rules.specs.WriteFile.{run_in, runs_in};
 ghost use Rattle.rules.specs.Calls as calls;
 ghost use Rattle.rules.specs.Calls.{Ready, step};
-ghost use Rattle.rules.specs.Answers.{leaves, said_number};
+ghost use Rattle.rules.specs.Answers.{one_value, leaves, said};
 ghost use Rattle.rules.proofs.Laws.Safe.{LiveSlot};
 ghost use Rattle.slots.specs.Asked.{Along};
 ghost use Rattle.file_writes.specs.Writes.{stored_as, frames_along, bodies_of, entries_of, Marks, Begins, Scans, FitsAll, Filled};
 
-use littles::{put4, put8};
+use littles::{FRAME_LENGTH, VERSION, put4, put8};
 use rules::{
-    CLASS, COUNT, FRAME, GENERATION, HEADER, Head, NEXT, Number, PAYLOAD, Refusal, SIZE, TOTAL,
-    VALUE,
+    CLASS, COUNT, FRAME, GENERATION, HEADER, Head, NEXT, PAYLOAD, Refusal, SIZE, TOTAL, VALUE,
 };
 use slots::get;
-
-// The version that is written, and the bytes to a frame; in the rules, frame_length.
-const VERSION: u64 = 1;
-
-const FRAME_LENGTH: u64 = 12;
 
 // Whether the slot after `i` others begins a run: it is live, and no lower one had its class, which is met then.
 fn begins(head: Head, elems: &[u64], shared: &[u64], seen: &mut [u64], i: u64) -> bool
@@ -56,16 +50,14 @@ fn write_frames(elems: &[u64], n: u64, x: u64, out: &mut [u8], place: usize) -> 
     requires { Along elems.now n x × (place + n * frame_length 1 ≤ length out.old) }
     ensures { (result ≡ place + n * frame_length 1) × (out.new ≡ sets out.old place (frames_along elems.now n x)) }
 {
-    let mut left = n;
     let mut slot = x;
     let mut at = place;
-    while 0 < left {
+    for _ in 0..n {
         let payload = get(elems, FRAME, PAYLOAD, slot);
         let size = get(elems, FRAME, SIZE, slot);
         write_frame(out, at, payload, size);
         slot = get(elems, FRAME, NEXT, slot);
-        at = at + 12;
-        left = left - 1;
+        at += FRAME_LENGTH;
     }
     at
 }
@@ -92,10 +84,11 @@ fn body_length(head: Head, elems: &[u64], shared: &[u64], x: u64) -> u64
 {
     let class = get(elems, FRAME, CLASS, x);
     let count = get(shared, HEADER, COUNT, class);
-    20 + count * FRAME_LENGTH
+    20 + count * FRAME_LENGTH as u64
 }
 
 // The contents: an entry for each run, the bodies beginning at `first`.
+// Kept as two scans: a closure that writes the lent bytes would hand no fact of them out, and the contents come first.
 fn write_contents(
     head: Head,
     elems: &[u64],
@@ -107,21 +100,16 @@ fn write_contents(
     requires { Ready (state_of head elems.now shared.now) × Marks (state_of head elems.now shared.now) 0 seen.old × FitsAll (state_of head elems.now shared.now) first out.old }
     ensures { out.new ≡ sets out.old 8 (entries_of first (runs_in (state_of head elems.now shared.now))) }
 {
-    let mut i: u64 = 0;
     let mut entry: usize = 8;
     let mut at = first;
-    while i < head.elems.extent {
-        let x = i + 1;
-        if !begins(head, elems, shared, seen, i) {
-            i = x;
-            continue;
+    for i in 0..head.elems.extent {
+        if begins(head, elems, shared, seen, i) {
+            let long = body_length(head, elems, shared, i + 1);
+            put4(out, entry, at);
+            put4(out, entry + 4, long);
+            at += long;
+            entry += 8;
         }
-        let long = body_length(head, elems, shared, x);
-        put4(out, entry, at);
-        put4(out, entry + 4, long);
-        at = at + long;
-        entry = entry + 8;
-        i = x;
     }
 }
 
@@ -137,38 +125,28 @@ fn write_bodies(
     requires { Ready (state_of head elems.now shared.now) × Marks (state_of head elems.now shared.now) 0 seen.old × FitsAll (state_of head elems.now shared.now) first out.old }
     ensures { out.new ≡ sets out.old first (bodies_of (runs_in (state_of head elems.now shared.now))) }
 {
-    let mut i: u64 = 0;
     let mut at = first;
-    while i < head.elems.extent {
-        let x = i + 1;
-        if !begins(head, elems, shared, seen, i) {
-            i = x;
-            continue;
+    for i in 0..head.elems.extent {
+        if begins(head, elems, shared, seen, i) {
+            at += write_body(head, elems, shared, i + 1, &mut out[at..]);
         }
-        let long = write_body(head, elems, shared, x, &mut out[at..]);
-        at = at + long;
-        i = x;
     }
 }
 
-// Contents and bodies, with a set for 1,024 classes, and for all. Each scan begins with an empty set.
-fn write_few(head: Head, elems: &[u64], shared: &[u64], out: &mut [u8], first: usize)
-    requires { Ready (state_of head elems.now shared.now) × FitsAll (state_of head elems.now shared.now) first out.old × (head.shared.extent ≤ 1024) }
+// Contents and bodies, with a set of so many words. Each scan begins with an empty set.
+fn write_with<const WORDS: usize>(
+    head: Head,
+    elems: &[u64],
+    shared: &[u64],
+    out: &mut [u8],
+    first: usize,
+)
+    requires { Ready (state_of head elems.now shared.now) × FitsAll (state_of head elems.now shared.now) first out.old × (head.shared.extent ≤ WORDS * 64) × (WORDS ≤ 1024) }
     ensures { Filled (state_of head elems.now shared.now) first out.old out.new }
 {
-    let mut seen: [u64; 16] = [0; 16];
+    let mut seen: [u64; WORDS] = [0; WORDS];
     write_contents(head, elems, shared, &mut seen, out, first as u64);
-    seen = [0; 16];
-    write_bodies(head, elems, shared, &mut seen, out, first);
-}
-
-fn write_many(head: Head, elems: &[u64], shared: &[u64], out: &mut [u8], first: usize)
-    requires { Ready (state_of head elems.now shared.now) × FitsAll (state_of head elems.now shared.now) first out.old × (head.shared.extent ≤ 65536) }
-    ensures { Filled (state_of head elems.now shared.now) first out.old out.new }
-{
-    let mut seen: [u64; 1024] = [0; 1024];
-    write_contents(head, elems, shared, &mut seen, out, first as u64);
-    seen = [0; 1024];
+    seen = [0; WORDS];
     write_bodies(head, elems, shared, &mut seen, out, first);
 }
 
@@ -177,27 +155,32 @@ fn write_runs(head: Head, elems: &[u64], shared: &[u64], out: &mut [u8], first: 
     requires { Ready (state_of head elems.now shared.now) × FitsAll (state_of head elems.now shared.now) first out.old }
     ensures { Filled (state_of head elems.now shared.now) first out.old out.new }
 {
-    let q = head.shared;
-    if q.extent <= 1024 {
-        return write_few(head, elems, shared, out, first);
+    if head.shared.extent <= 1024 {
+        write_with::<16>(head, elems, shared, out, first);
+    } else {
+        write_with::<1024>(head, elems, shared, out, first);
     }
-    write_many(head, elems, shared, out, first);
 }
 
 // Ticket 11: all runs into the lent bytes; the answer is how many bytes. At the inner door.
-pub fn write_file(head: Head, elems: &[u64], shared: &[u64], file: &mut [u8]) -> Number
+pub fn write_file(
+    head: Head,
+    elems: &[u64],
+    shared: &[u64],
+    file: &mut [u8],
+) -> Result<u64, Refusal>
     requires { Ready (state_of head elems.now shared.now) }
-    ensures { leaves head elems.now shared.now file.new (said_number result false) ≡ step (state_of head elems.now shared.now) file.old calls.write_file }
+    ensures { leaves head elems.now shared.now file.new (said one_value result) ≡ step (state_of head elems.now shared.now) file.old calls.write_file }
 {
     let runs = head.shared.live;
     let frames = head.elems.live;
-    let long = 8 + runs * 28 + frames * FRAME_LENGTH;
+    let long = 8 + runs * 28 + frames * FRAME_LENGTH as u64;
     if (file.len() as u64) < long {
-        return Number::Refused(Refusal::Short);
+        return Err(Refusal::Short);
     }
     put4(file, 0, VERSION);
     put4(file, 4, runs);
-    let first = 8 + (runs as usize) * 8;
+    let first = 8 + runs as usize * 8;
     write_runs(head, elems, shared, file, first);
-    Number::Is(long)
+    Ok(long)
 }

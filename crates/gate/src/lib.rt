@@ -16,10 +16,7 @@ pub fn gate(head: Head, elems: &[u64], shared: &[u64]) -> Result<(), Refusal>
     if !shape::is_shaped(head, elems, shared) {
         return Err(Refusal::Shape);
     }
-    if !sound::is_sound(head, elems, shared) {
-        return Err(Refusal::Unsound);
-    }
-    if !undos::remembers(head, elems, shared) {
+    if !sound::is_sound(head, elems, shared) || !undos::remembers(head, elems, shared) {
         return Err(Refusal::Unsound);
     }
     Ok(())

@@ -3,28 +3,26 @@ use mathlib.Core.Path.{◌≡◌, refl, sym, ap, ◌∙◌, subst}
 use mathlib.Core.Logic.{◌≢◌, ◌⊎◌, inl, inr}
 use mathlib.Core.List.{List, ◌++◌, append-nil}
 use mathlib.Core.Bool.{Bool, true, false}
-use Prim.Native.Nat.{ℕ, zero, suc, ◌+◌, ◌*◌, ◌-◌, ◌≤◌, ◌<◌}
+use Prim.Native.Nat.{ℕ, suc, ◌+◌, ◌*◌, ◌-◌, ◌≤◌, ◌<◌}
 use native.Mathlib.Omega.{arith}
 use native.Mathlib.Decide.{ℕ_discrete, dec_lt}
 use lib.ListN.{length, get_or, length-append}
 use Rattle.rules.specs.Notation.{steps}
-use Rattle.rules.specs.Tables.{most_slots, frame_width, header_width, frame_at, cell, generation_of, payload_of, class_of, previous_of, next_of, bytes_of, count_of, State}
-use Rattle.rules.specs.Runs.{frame}
+use Rattle.rules.specs.Tables.{frame_width, frame_at, cell, generation_of, payload_of, class_of, next_of, bytes_of, count_of, State}
 use Rattle.rules.specs.Drains.{ring}
 use Rattle.rules.specs.Calls.{Ready}
-use Rattle.rules.specs.Compress.{is_lowest, canonical_frames, place_of}
+use Rattle.rules.specs.Compress.{is_lowest, canonical_frames}
 use Rattle.rules.proofs.Laws.Lists.{All, In, Out, all_of, all-at, all_parts, in_dec, in_parts, nodup_parts}
 use Rattle.rules.proofs.Laws.Steps.{met as met_at, when_met}
 use Rattle.rules.proofs.Laws.Pools.{live_in}
 use Rattle.rules.proofs.Laws.Working.{View, view, Working}
 use Rattle.rules.proofs.Laws.Soundness.{Shaped, shaped_of}
 use Rattle.rules.proofs.Laws.Safe.{working}
-use Rattle.rules.proofs.Laws.Order.{Looked, free, first, later, looked, Led, Scanned, scanned, not_led, is_led, frames_to, frames_more, frames-to, frames_listed}
+use Rattle.rules.proofs.Laws.Order.{Looked, free, first, later, looked, Led, scanned, not_led, is_led, frames_to, frames_more, frames-to, frames_listed}
 use Rattle.rules.proofs.Laws.Compress.{listed_live, live-fits}
 use Rattle.rules.proofs.Laws.Past.{Empty, empty_of, zeros_of, past-elems}
 use Rattle.rules.proofs.Laws.Blocks.{frames-ring, ring-length, block_at, block_live, block_next, block_prev}
-use Rattle.slots.specs.Asked.{Within}
-use Rattle.copies.specs.Parts.{Holds, Copiable, copied_frame, Copied}
+use Rattle.copies.specs.Parts.{Copiable, copied_frame, Copied}
 use Rattle.gather.specs.Elements.{Visitable, Visit, passed, met, carried_frame, Moved, Gathered}
 
 pub order_fits : (st : State) → Ready st → length (canonical_frames st) ≤ st.head.elems.capacity
@@ -36,9 +34,6 @@ enough_rows st R n h = omega (arith, live-fits (working st R).elems)
 
 -- THE INVARIANT of the scan: `k` slots are looked at, `t` frames copied
 pub record Gathering (st : State) (sc₀ : List ℕ) (g : ℕ) (e sc : List ℕ) (k t : ℕ) : Type 0 where
-  pub ready : Ready st
-  pub room : st.head.elems.live * frame_width ≤ length sc₀
-  pub high : k ≤ st.head.elems.extent
   pub count : t ≡ length (frames_to st k)
   pub long : length e ≡ length st.elems
   pub others : (f : ℕ) → f < frame_width → f ≢ frame_at.generation → cell frame_width e f ≡ cell frame_width st.elems f
@@ -49,25 +44,22 @@ pub record Gathering (st : State) (sc₀ : List ℕ) (g : ℕ) (e sc : List ℕ)
   pub still : (f s : ℕ) → f < frame_width → t < s → cell frame_width sc f s ≡ cell frame_width sc₀ f s
   pub wide : length sc ≡ length sc₀
 
-pub gathering_start : (st : State) (sc : List ℕ) (g : ℕ) → Ready st → st.head.elems.live * frame_width ≤ length sc → Gathering st sc g st.elems sc 0 0
-gathering_start st sc g R h = record
-    { ready = R; room = h; high = omega arith; count = refl; long = refl; others = λ f h n. refl; hit = λ x m. absurd m; miss = λ x o. refl; frames = λ u l. absurd (omega arith); still = λ f s h l. refl; wide = refl }
+pub gathering_start : (st : State) (sc : List ℕ) (g : ℕ) → Gathering st sc g st.elems sc 0 0
+gathering_start st sc g = record
+    { count = refl; long = refl; others = λ f h n. refl; hit = λ x m. absurd m; miss = λ x o. refl; frames = λ u l. absurd (omega arith); still = λ f s h l. refl; wide = refl }
 
 out_of : (x : ℕ) (xs : List ℕ) → (In x xs → ⊥) → Out x xs
 out_of x xs f = all_of (λ y. x ≢ y) xs (λ y m e. f (subst (λ (z : ℕ). In z xs) (sym e) m))
 
-module _ (st : State) (sc₀ : List ℕ) (g : ℕ) (e sc : List ℕ) (k t : ℕ) (R : Gathering st sc₀ g e sc k t) (l : k < st.head.elems.extent) where
+module _ (st : State) (sc₀ : List ℕ) (g : ℕ) (e sc : List ℕ) (k t : ℕ) (Y : Ready st) (room : st.head.elems.live * frame_width ≤ length sc₀) (R : Gathering st sc₀ g e sc k t) (l : k < st.head.elems.extent) where
   abbrev v : View
   v = view st
 
   W : Working (view st)
-  W = working st R.ready
+  W = working st Y
 
   H : Shaped st
-  H = shaped_of st R.ready.shape
-
-  pub gathering_small : k + 1 ≤ most_slots
-  gathering_small = omega (arith, W.elems.fits, H.elems.small)
+  H = shaped_of st Y.shape
 
   nexts : next_of e ≡ next_of st.elems
   nexts = R.others frame_at.next (omega arith) (omega arith)
@@ -125,10 +117,10 @@ module _ (st : State) (sc₀ : List ℕ) (g : ℕ) (e sc : List ℕ) (k t : ℕ)
     copiable : Copiable e sc (suc k) t size
     copiable =
         let p = live_leads a in
-        let o = order_fits st R.ready in
+        let o = order_fits st Y in
         record {
           slots = λ i b. rw nexts (let q = live_in W.elems (steps v.next i (suc k)) (block_live st W k l p.0 p.1 i b) in record { some = q.0; inside = omega (arith, q.1, W.elems.fits, H.elems.long, R.long) });
-          room = omega (arith, fits, listed_live W.elems (canonical_frames st) (frames_listed st W), R.room, R.wide);
+          room = omega (arith, fits, listed_live W.elems (canonical_frames st) (frames_listed st W), room, R.wide);
           small = omega (arith, fits, o, H.elems.small);
         }
 
@@ -150,9 +142,6 @@ module _ (st : State) (sc₀ : List ℕ) (g : ℕ) (e sc : List ℕ) (k t : ℕ)
   next-passed a =
       let q : frames_to st (suc k) ≡ frames_to st k = frames_more st W k false (dead-skips a) ∙ append-nil (frames_to st k) in
       record {
-        ready = R.ready;
-        room = R.room;
-        high = l;
         count = rw q R.count;
         long = R.long;
         others = R.others;
@@ -166,9 +155,6 @@ module _ (st : State) (sc₀ : List ℕ) (g : ℕ) (e sc : List ℕ) (k t : ℕ)
   next-met : (a : generation_of e (suc k) ≢ 0) (e' sc' : List ℕ) → Copied e sc (suc k) t ((view st).count ((view st).class (suc k))) ((view st).count ((view st).class (suc k))) g e' sc'
       → Gathering st sc₀ g e' sc' (suc k) (t + (view st).count ((view st).class (suc k)))
   next-met a e' sc' C = record {
-    ready = R.ready;
-    room = R.room;
-    high = l;
     count = rw (more, length-append, ring-length st W k l p.0 p.1, R.count);
     long = C.long ∙ R.long;
     others = λ f h n. C.others f h n ∙ R.others f h n;
@@ -208,18 +194,17 @@ module _ (st : State) (sc₀ : List ℕ) (g : ℕ) (e sc : List ℕ) (k t : ℕ)
   gathering_next e' sc' r (met a C z) = rw (z, size_is a) (next-met a e' sc' (rw (size_is a) at C))
 
 -- past the extent nothing was met, and all is zero still
-gathering_past : (st : State) (sc₀ : List ℕ) (g : ℕ) (e sc : List ℕ) (k t : ℕ) → Gathering st sc₀ g e sc k t → (j : ℕ) → st.head.elems.extent * frame_width ≤ j → get_or e j 0 ≡ 0
-gathering_past st sc₀ g e sc k t R = zeros_of frame_width e st.head.elems.extent (omega arith) (λ f s h l. go f s h l (ℕ_discrete f frame_at.generation) (in_dec ℕ_discrete s (frames_to st k)))
+gathering_past : (st : State) (sc₀ : List ℕ) (g : ℕ) (e sc : List ℕ) (k t : ℕ) → Ready st → Gathering st sc₀ g e sc k t → (j : ℕ) → st.head.elems.extent * frame_width ≤ j → get_or e j 0 ≡ 0
+gathering_past st sc₀ g e sc k t Y R = zeros_of frame_width e st.head.elems.extent (omega arith) (λ f s h l. go f s h l (ℕ_discrete f frame_at.generation) (in_dec ℕ_discrete s (frames_to st k)))
   where
     was : Empty frame_width st.elems st.head.elems.extent
-    was = empty_of frame_width st.elems st.head.elems.extent (past-elems st R.ready)
+    was = empty_of frame_width st.elems st.head.elems.extent (past-elems st Y)
 
     go : (f s : ℕ) → f < frame_width → st.head.elems.extent < s → Dec (f ≡ frame_at.generation) → Dec (In s (frames_to st k)) → cell frame_width e f s ≡ 0
     go f s h l (yes z) (yes m) = rw z (R.hit s m)
     go f s h l (yes z) (no m) = rw z (R.miss s (out_of s (frames_to st k) m) ∙ was frame_at.generation s (omega arith) l)
     go f s h l (no n) d = ap (λ (c : ℕ → ℕ). c s) (R.others f h n) ∙ was f s h l
 
-pub gathering_done : (st : State) (sc₀ : List ℕ) (g : ℕ) (e sc : List ℕ) (k t : ℕ) → Gathering st sc₀ g e sc k t → st.head.elems.extent ≤ k → Gathered st sc₀ g e sc t
-gathering_done st sc₀ g e sc k t R d =
-    let z : k ≡ st.head.elems.extent = omega (arith, R.high) in
-    record { all = rw z at R.count ∙ ap length (sym (frames-to st)); long = R.long; past = gathering_past st sc₀ g e sc k t R; frames = R.frames; still = R.still; wide = R.wide }
+pub gathering_done : (st : State) (sc₀ : List ℕ) (g : ℕ) (e sc : List ℕ) (k t : ℕ) → Ready st → Gathering st sc₀ g e sc k t → k ≡ st.head.elems.extent → Gathered st sc₀ g e sc t
+gathering_done st sc₀ g e sc k t Y R z =
+    record { all = rw z at R.count ∙ ap length (sym (frames-to st)); long = R.long; past = gathering_past st sc₀ g e sc k t Y R; frames = R.frames; still = R.still; wide = R.wide }

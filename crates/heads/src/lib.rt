@@ -1,11 +1,15 @@
-// The lent head: thirteen numbers (docs/LAYOUT.md).
+// The lent head: thirteen numbers (docs/LAYOUT.md), or the struct, which lies as they do.
 #![tactic(auto)]
 
-ghost use Rattle.std.specs.Prelude.{◌≡◌, if◌then◌else◌, ◌==◌};
-ghost use Rattle.numbers.specs.Numbers.{head_of};
+ghost use Rattle.std.specs.Prelude.{◌≡◌};
+ghost use Rattle.rules.specs.declared.Head.{Head};
+ghost use Rattle.rules.specs.Answers.{said_step, head_after};
+ghost use Rattle.numbers.specs.Numbers.{Answered, head_of};
 
-use rules::{Head, Memory, Pool};
+use numbers::answers::{Numbers, result_of};
+use rules::{Head, Memory, Pool, Refusal, Step};
 
+#[tactic(auto, unfolding(numbers::specs::Numbers::head_of))]
 pub fn unpack(h: [u64; 13]) -> Head
     ensures { result ≡ head_of h }
 {
@@ -32,6 +36,7 @@ pub fn unpack(h: [u64; 13]) -> Head
     }
 }
 
+#[tactic(auto, unfolding(numbers::specs::Numbers::head_of))]
 pub fn pack(h: Head) -> [u64; 13]
     ensures { head_of result ≡ h }
 {
@@ -55,12 +60,45 @@ pub fn pack(h: Head) -> [u64; 13]
     ]
 }
 
-// Refusals, below the table: an accepted call's next head is stored; a refused call, whose number is not 0, stores nothing.
-pub fn store(head: &mut [u64; 13], next: Head, number: u64)
-    ensures { head_of head.new ≡ (if number == 0 then next else head_of head.old) }
-{
-    if number != 0 {
-        return;
+// What a host lends as its head.
+pub trait Lent: Copy {
+    ghost head: { Self → Head };
+
+    fn lend(next: Head) -> Self
+        ensures { head result ≡ next };
+}
+
+impl Lent for [u64; 13] {
+    ghost head = { head_of };
+
+    fn lend(next: Head) -> [u64; 13] {
+        pack(next)
     }
-    *head = pack(next);
+}
+
+impl Lent for Head {
+    ghost head = { λ h. h };
+
+    fn lend(next: Head) -> Head {
+        next
+    }
+}
+
+// Refusals, below the table: an accepted call's next head is stored and its numbers are told; a refused call stores nothing.
+pub fn finish<H: Lent, T: Numbers<N>, const N: usize>(
+    step: Result<Step<T>, Refusal>,
+    head: &mut H,
+    out: &mut [u64; N],
+) -> u64
+    ensures told { Answered T.shown (said_step T.values step) out.old result out.new }
+    ensures stored { H.head head.new ≡ head_after (H.head head.old) step }
+{
+    match step {
+        Ok(next) => {
+            *head = H::lend(next.head);
+            *out = next.answer.numbers(next.over);
+            0
+        }
+        Err(refusal) => result_of(refusal),
+    }
 }

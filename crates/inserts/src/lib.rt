@@ -4,13 +4,13 @@
 
 ghost use Rattle.std.specs.Prelude.{◌≡◌, [], ◌≤◌};
 ghost use Rattle.rules.specs.Tables.{most_bytes, state_of};
-ghost use Rattle.rules.specs.Runs.{begun, inserted};
+ghost use Rattle.rules.specs.Runs.{key_values, begun, inserted};
 ghost use Rattle.rules.specs.Calls.{Ready, step, new_run, insert};
-ghost use Rattle.rules.specs.Answers.{after_inserted};
+ghost use Rattle.rules.specs.Answers.{after};
 ghost use Rattle.slots.specs.Asked.{OnLive};
 ghost use Rattle.inserts.specs.Asked.{HasRoom, RoomFor};
 
-use rules::{COUNT, Found, HEADER, Head, HeadInserted, Inserted, Key, Refusal, TOTAL};
+use rules::{COUNT, HEADER, Head, Key, Refusal, Step, TOTAL};
 
 // A frame and a header are taken: a ring of one, count 1.
 fn begin(
@@ -43,33 +43,25 @@ pub fn insert_surject(
     payload: u64,
     value: u64,
     size: u32,
-) -> HeadInserted
+) -> Result<Step<Key>, Refusal>
     requires { Ready (state_of head elems.old shared.old) }
-    ensures { after_inserted result elems.new shared.new [] ≡ step (state_of head elems.old shared.old) [] (new_run payload value size) }
+    ensures { after key_values head result elems.new shared.new [] ≡ step (state_of head elems.old shared.old) [] (new_run payload value size) }
 {
     let frames = head.elems;
     let headers = head.shared;
     if headers.is_full() {
-        return HeadInserted {
-            head,
-            answer: Inserted::Refused(Refusal::NoShared),
-        };
+        return Err(Refusal::NoShared);
     }
     if frames.is_full() {
-        return HeadInserted {
-            head,
-            answer: Inserted::Refused(Refusal::NoElement),
-        };
+        return Err(Refusal::NoElement);
     }
     let slot = frames.slot();
     let next = begin(head, elems, shared, payload, value, size as u64);
-    HeadInserted {
-        head: next,
-        answer: Inserted::At(Key {
-            slot,
-            generation: head.generation,
-        }),
-    }
+    let key = Key {
+        slot,
+        generation: head.generation,
+    };
+    Ok(Step::plain(next, key))
 }
 
 // A frame is taken, and stands immediately after the one in `x`.
@@ -102,39 +94,23 @@ pub fn insert(
     at: Key,
     payload: u64,
     size: u32,
-) -> HeadInserted
+) -> Result<Step<Key>, Refusal>
     requires { Ready (state_of head elems.old shared.old) }
-    ensures { after_inserted result elems.new shared.new [] ≡ step (state_of head elems.old shared.old) [] (insert at payload size) }
+    ensures { after key_values head result elems.new shared.new [] ≡ step (state_of head elems.old shared.old) [] (insert at payload size) }
 {
-    let x = match slots::find(head, elems, at) {
-        Found::Live(x) => x,
-        Found::Dead(cause) => {
-            return HeadInserted {
-                head,
-                answer: Inserted::Refused(Refusal::Dead(cause)),
-            };
-        }
-    };
+    let x = slots::find(head, elems, at)?;
     if slots::is_sealed(head, elems, shared, x) {
-        return HeadInserted {
-            head,
-            answer: Inserted::Refused(Refusal::Sealed),
-        };
+        return Err(Refusal::Sealed);
     }
     let frames = head.elems;
     if frames.is_full() {
-        return HeadInserted {
-            head,
-            answer: Inserted::Refused(Refusal::NoElement),
-        };
+        return Err(Refusal::NoElement);
     }
     let slot = frames.slot();
     let next = insert_at(head, elems, shared, x, payload, size as u64);
-    HeadInserted {
-        head: next,
-        answer: Inserted::At(Key {
-            slot,
-            generation: head.generation,
-        }),
-    }
+    let key = Key {
+        slot,
+        generation: head.generation,
+    };
+    Ok(Step::plain(next, key))
 }

@@ -1,58 +1,73 @@
--- Numbers at a place of a list of bytes.
-use Prim.Native.Nat.{ℕ, zero, suc, ◌+◌, ◌*◌, ◌/◌, ◌%◌, ◌≤◌, ◌<◌}
-use mathlib.Core.Path.{◌≡◌, refl, sym, ap, ◌∙◌, subst}
-use mathlib.Core.List.{List, [], ◌∷◌, ◌++◌}
+-- Numbers as the library reads and writes their bytes, at a place of a list of bytes.
+use Prim.Native.Nat.{ℕ, zero, suc, ◌+◌, ◌*◌, ◌/◌, ◌%◌, ◌^◌, ◌≤◌, ◌<◌}
+use mathlib.Core.Path.{◌≡◌, refl, sym, ap, ◌∙◌}
+use mathlib.Core.List.{List, [], ◌∷◌, ◌++◌, append_assoc}
 use native.Mathlib.Omega.{arith}
-use lib.ListN.{length, drop, get_or, set, length-drop}
-use lib.Seq.{get_or-drop, drop-drop, sets}
-use Rattle.rules.specs.Bytes.{little, value}
-use Rattle.rules.proofs.Laws.Numbers.{length-little}
+use native.Mathlib.Nat.{div-div-eq-div-mul, pow-suc, mul_assoc, mul_comm}
+use lib.ListN.{length, take, drop, get_or, replicate, set}
+use lib.Seq.{sets, drop-drop}
+use borrow.Rule.Slice.PartMut.{put_mid}
+use Rattle.std.specs.Int.{from_le_bytes, to_le_bytes, bytes_low_first, w64}
+use Rattle.std.proofs.lemmas.List.Edits.{sets-eq}
+use Rattle.rules.specs.Bytes.{little, value, limit}
+use Rattle.rules.proofs.Laws.Numbers.{limit-some}
 
-value_four : (l : List ℕ) → 4 ≤ length l → value 4 l ≡ get_or l 0 0 + get_or l 1 0 * 256 + get_or l 2 0 * 65536 + get_or l 3 0 * 16777216
+-- a number by its highest byte
+value-last : (w : ℕ) (b : List ℕ) → value (suc w) b ≡ value w b + get_or b w 0 * 256 ^ w
 unfolding value
-value_four [] h = absurd (omega arith)
-value_four (x ∷ []) h = absurd (omega arith)
-value_four (x ∷ y ∷ []) h = absurd (omega arith)
-value_four (x ∷ y ∷ z ∷ []) h = absurd (omega arith)
-value_four (x ∷ y ∷ z ∷ w ∷ l) h = omega arith
+value-last zero [] = refl
+value-last zero (x ∷ b) = omega arith
+value-last (suc w) [] = omega arith
+value-last (suc w) (x ∷ b) =
+    let p : get_or b w 0 * 256 ^ suc w ≡ 256 * (get_or b w 0 * 256 ^ w) = rw (pow-suc 256 w) (sym (mul_assoc (get_or b w 0) (256 ^ w) 256) ∙ mul_comm (get_or b w 0 * 256 ^ w) 256) in
+    omega (arith, value-last w b, p)
 
-pub value-at : (b : List ℕ) (at : ℕ) → at + 4 ≤ length b → value 4 (drop at b) ≡ get_or b at 0 + get_or b (at + 1) 0 * 256 + get_or b (at + 2) 0 * 65536 + get_or b (at + 3) 0 * 16777216
-value-at b at h =
-    let z : at + 0 ≡ at = omega arith in
-    let e : get_or (drop at b) 0 0 ≡ get_or b at 0 = get_or-drop at b 0 0 ∙ ap (λ (k : ℕ). get_or b k 0) z in
-    value_four (drop at b) (omega (arith, length-drop at b)) ∙ rw (e, get_or-drop at b 1 0, get_or-drop at b 2 0, get_or-drop at b 3 0)
-
-value_eight : (l : List ℕ) → value 8 l ≡ value 4 l + 4294967296 * value 4 (drop 4 l)
+-- a number of as many bytes as the library's, the rest of them zero
+value-zeros : (n : ℕ) → value n (replicate n 0) ≡ 0
 unfolding value
-value_eight [] = refl
-value_eight (x ∷ []) = omega arith
-value_eight (x ∷ y ∷ []) = omega arith
-value_eight (x ∷ y ∷ z ∷ []) = omega arith
-value_eight (x ∷ y ∷ z ∷ w ∷ l) = omega arith
+value-zeros zero = refl
+value-zeros (suc n) = omega (arith, value-zeros n)
 
-pub value_at8 : (b : List ℕ) (at : ℕ) → value 8 (drop at b) ≡ value 4 (drop at b) + 4294967296 * value 4 (drop (at + 4) b)
-value_at8 b at = value_eight (drop at b) ∙ rw (drop-drop 4 at b)
+pub value-padded : (n w : ℕ) (b : List ℕ) → w ≤ n → w ≤ length b → value n (take w b ++ drop w (replicate n 0)) ≡ value w b
+unfolding value
+value-padded n zero b h l = value-zeros n
+value-padded zero (suc w) b h l = absurd (omega arith)
+value-padded (suc n) (suc w) [] h l = absurd (omega arith)
+value-padded (suc n) (suc w) (x ∷ b) h l = rw (value-padded n w b (omega arith) (omega arith))
 
-pub sets_four : (l : List ℕ) (at n : ℕ) → set (set (set (set l at (n % 256)) (at + 1) (n / 256 % 256)) (at + 2) (n / 256 / 256 % 256)) (at + 3) (n / 256 / 256 / 256 % 256) ≡ sets l at (little 4 n)
+pub from_le-value : (b : List ℕ) → from_le_bytes w64 b ≡ value 8 b
+from_le-value b =
+    let z : value 0 b ≡ 0 = unfold value in refl in
+    omega (arith, z, value-last 0 b, value-last 1 b, value-last 2 b, value-last 3 b, value-last 4 b, value-last 5 b, value-last 6 b, value-last 7 b)
+
+pub value-below : (w : ℕ) (b : List ℕ) → ((i : ℕ) → get_or b i 0 < 256) → value w b < limit w
+unfolding value
+value-below zero b k = omega arith
+value-below (suc w) [] k = omega (arith, limit-some w)
+value-below (suc w) (x ∷ b) k = omega (arith, k 0, value-below w b (λ i. k (suc i)))
+
+-- the low bytes of a number
+low-little : (k i n : ℕ) → bytes_low_first (suc i) k n ≡ little k (n / 256 ^ suc i)
 unfolding little
-sets_four l at n =
-    let one : at + 1 ≡ suc at = omega arith in
-    let two : at + 2 ≡ suc (suc at) = omega arith in
-    let three : at + 3 ≡ suc (suc (suc at)) = omega arith in
-    rw (one, two, three)
+low-little zero i n = refl
+low-little (suc k) i n =
+    let p : n / 256 ^ suc i / 256 ≡ n / 256 ^ suc (suc i) = div-div-eq-div-mul n (256 ^ suc i) 256 ∙ ap (λ (m : ℕ). n / m) (sym (pow-suc 256 (suc i))) in
+    rw p (ap (λ (l : List ℕ). n / 256 ^ suc i % 256 ∷ l) (low-little k (suc i) n))
+
+pub to_le-little : (n : ℕ) → to_le_bytes w64 n ≡ little 8 n
+unfolding little
+to_le-little n = ap (λ (l : List ℕ). n % 256 ∷ l) (low-little 7 0 n)
+
+pub take-little : (n w m : ℕ) → w ≤ n → take w (little n m) ≡ little w m
+unfolding little
+take-little n zero m h = refl
+take-little zero (suc w) m h = absurd (omega arith)
+take-little (suc n) (suc w) m h = rw (take-little n w (m / 256) (omega arith))
+
+pub put_mid-sets : (at w : ℕ) (out x : List ℕ) → length x ≡ w → at + w ≤ length out → put_mid at w out x ≡ sets out at x
+put_mid-sets at w out x l h = rw (sets-eq x out at (omega (arith, l, h)), l, drop-drop w at out) (sym (append_assoc (take at out) x (drop (at + w) out)))
 
 -- a run of stores after a run of stores
 pub sets_append : (l : List ℕ) (at : ℕ) (a b : List ℕ) → sets (sets l at a) (at + length a) b ≡ sets l at (a ++ b)
 sets_append l at [] b = let z : at + 0 ≡ at = omega arith in rw z
 sets_append l at (x ∷ a) b = let z : at + suc (length a) ≡ suc at + length a = omega arith in rw z (sets_append (set l at x) (suc at) a b)
-
-pub little_eight : (n : ℕ) → little 8 n ≡ little 4 n ++ little 4 (n / 256 / 256 / 256 / 256)
-unfolding little
-little_eight n = refl
-
-pub sets_eight : (l l₁ l₂ : List ℕ) (at n : ℕ) → l₁ ≡ sets l at (little 4 n) → l₂ ≡ sets l₁ (at + 4) (little 4 (n / 256 / 256 / 256 / 256)) → l₂ ≡ sets l at (little 8 n)
-sets_eight l l₁ l₂ at n p q =
-    let a = little 4 n in
-    let b = little 4 (n / 256 / 256 / 256 / 256) in
-    let z : sets (sets l at a) (at + 4) b ≡ sets (sets l at a) (at + length a) b = ap (λ (k : ℕ). sets (sets l at a) (at + k) b) (sym (length-little 4 n)) in
-    q ∙ ap (λ (x : List ℕ). sets x (at + 4) b) p ∙ z ∙ sets_append l at a b ∙ ap (sets l at) (sym (little_eight n))

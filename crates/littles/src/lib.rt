@@ -3,54 +3,56 @@
 
 ghost use Rattle.std.specs.Prelude.{◌≡◌, ◌+◌, ◌≤◌, ◌<◌, length, drop};
 ghost use Rattle.std.proofs.lemmas.List.Edits.{sets};
-ghost use Rattle.rules.specs.Bytes.{little, value};
+ghost use Rattle.rules.specs.Bytes.{little, value, limit};
 
-fn wide(x: u8) -> u64
-    ensures { (result ≡ x) × (x < 256) }
+// The version of the run files that are written and read, and the bytes to a frame; in the rules, old_reader and frame_length.
+pub const VERSION: u64 = 1;
+
+pub const FRAME_LENGTH: usize = 12;
+
+// The number of so many bytes at a place.
+fn get<const WIDTH: usize>(b: &[u8], at: usize) -> u64
+    requires { (at + WIDTH ≤ length b.now) × (WIDTH ≤ 8) }
+    ensures { (result ≡ value WIDTH (drop at b.now)) × (result < limit WIDTH) }
 {
-    x as u64
+    let mut bytes = [0; 8];
+    bytes[..WIDTH].copy_from_slice(&b[at..at + WIDTH]);
+    u64::from_le_bytes(bytes)
 }
 
-// The u32 at a place, and the u64. Summed flat, so that the compiler sees one load.
+// The low bytes of a number are stored at a place.
+fn put<const WIDTH: usize>(out: &mut [u8], at: usize, n: u64)
+    requires { (at + WIDTH ≤ length out.old) × (WIDTH ≤ 8) }
+    ensures { out.new ≡ sets out.old at (little WIDTH n) }
+{
+    out[at..at + WIDTH].copy_from_slice(&n.to_le_bytes()[..WIDTH]);
+}
+
+// The u32 at a place, and the u64.
 pub fn get4(b: &[u8], at: usize) -> u64
     requires { at + 4 ≤ length b.now }
     ensures { (result ≡ value 4 (drop at b.now)) × (result < 4294967296) }
 {
-    let x0 = wide(b[at]);
-    let x1 = wide(b[at + 1]);
-    let x2 = wide(b[at + 2]);
-    let x3 = wide(b[at + 3]);
-    x0 + x1 * 256 + x2 * 65536 + x3 * 16777216
+    get::<4>(b, at)
 }
 
 pub fn get8(b: &[u8], at: usize) -> u64
     requires { at + 8 ≤ length b.now }
     ensures { result ≡ value 8 (drop at b.now) }
 {
-    let low = get4(b, at);
-    let high = get4(b, at + 4);
-    low + 4294967296 * high
+    get::<8>(b, at)
 }
 
-// The low bytes of a number are stored at a place.
 pub fn put4(out: &mut [u8], at: usize, n: u64)
     requires { at + 4 ≤ length out.old }
     ensures { out.new ≡ sets out.old at (little 4 n) }
 {
-    let n1 = n / 256;
-    let n2 = n1 / 256;
-    let n3 = n2 / 256;
-    out[at] = (n % 256) as u8;
-    out[at + 1] = (n1 % 256) as u8;
-    out[at + 2] = (n2 % 256) as u8;
-    out[at + 3] = (n3 % 256) as u8;
+    put::<4>(out, at, n);
 }
 
 pub fn put8(out: &mut [u8], at: usize, n: u64)
     requires { at + 8 ≤ length out.old }
     ensures { out.new ≡ sets out.old at (little 8 n) }
 {
-    put4(out, at, n);
-    let high = n / 256 / 256 / 256 / 256;
-    put4(out, at + 4, high);
+    put::<8>(out, at, n);
 }

@@ -4,6 +4,7 @@
 ghost use Rattle.std.specs.Prelude.{◌≡◌, ℕ, ◌*◌, ◌<◌, length};
 ghost use Rattle.marks.specs.Marks.{marked, Added};
 
+#[tactic(auto, unfolding(crate::specs::Marks::marked))]
 pub fn is_marked(words: &[u64], x: u64) -> bool
     requires { x < length words.now * 64 }
     ensures { marked words.now x ≡ result }
@@ -17,5 +18,5 @@ pub fn mark(words: &mut [u64], x: u64)
     ensures { Added words.old x words.new }
 {
     let at = (x / 64) as usize;
-    words[at] = words[at] | (1 << (x % 64));
+    words[at] |= 1 << (x % 64);
 }

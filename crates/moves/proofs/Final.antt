@@ -1,27 +1,26 @@
 -- The gathered rows are what laying rests on; and both together leave what the rule says, in tables of any capacities.
 use mathlib.Core.Path.{◌≡◌, refl, sym, ap, ◌∙◌}
 use mathlib.Core.Logic.{◌≢◌}
-use mathlib.Core.List.{List, [], map}
+use mathlib.Core.List.{List}
 use Prim.Native.Nat.{ℕ, zero, suc, ◌+◌, ◌*◌, ◌-◌, ◌≤◌, ◌<◌}
 use native.Mathlib.Nat.{mul-le-mul_right}
 use native.Mathlib.Omega.{arith}
 use native.Mathlib.Decide.{ℕ_discrete, dec_lt}
 use lib.ListN.{length, get_or, length-map, get_or-eq_default}
 use Rattle.rules.specs.declared.Head.{Head}
-use Rattle.rules.specs.Tables.{most_slots, state_of, frame_width, header_width, frame_at, header_at, cell, class_of, count_of, next_free_of, State}
+use Rattle.rules.specs.Tables.{most_slots, state_of, frame_width, header_width, frame_at, cell, class_of, next_free_of, State}
 use Rattle.rules.specs.Calls.{Ready}
 use Rattle.rules.specs.Compress.{lowest_slots, canonical_frames, canonical_classes, place_of, moved_frame, moved_header, renumbered_in}
-use Rattle.rules.proofs.Laws.Lists.{All, all-at}
+use Rattle.rules.proofs.Laws.Lists.{all-at}
 use Rattle.rules.proofs.Laws.Columns.{cell-none}
 use Rattle.rules.proofs.Laws.Pools.{live_in}
-use Rattle.rules.proofs.Laws.Count.{lives_le}
 use Rattle.rules.proofs.Laws.Working.{View, view, Working}
 use Rattle.rules.proofs.Laws.Soundness.{Shaped, shaped_of}
 use Rattle.rules.proofs.Laws.Safe.{working}
-use Rattle.rules.proofs.Laws.Places.{in_at, place_at, upto, upto_is, cells_ext, length-padded}
+use Rattle.rules.proofs.Laws.Places.{in_at, place_at, upto, upto_is, cells_ext}
 use Rattle.rules.proofs.Laws.Order.{Listed, frames_listed, classes_listed}
 use Rattle.rules.proofs.Laws.Compress.{listed_live, live-fits, frame_column, header_column, renumbered-elems, renumbered-shared}
-use Rattle.rules.proofs.Laws.Blocks.{ahead, ahead-next, ahead-all, ahead_le, ahead-some, Block, block_of, runs_of, frames-flat, runs-some, size_of, class_in}
+use Rattle.rules.proofs.Laws.Blocks.{ahead, ahead-next, ahead_le, ahead-some, block_of, runs_of, frames-flat, runs-some, size_of, class_in}
 use Rattle.copies.specs.Parts.{Zeroed}
 use Rattle.gather.specs.Elements.{carried_frame, Moved, Gathered}
 use Rattle.place.specs.Headers.{begins, named}

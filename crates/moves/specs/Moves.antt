@@ -1,7 +1,7 @@
 -- What a move asks and leaves.
-use Rattle.std.specs.Prelude.{◌≡◌, ◌≢◌, List, ℕ, suc, ◌+◌, ◌*◌, ◌≤◌, ◌<◌, length, get_or}
+use Rattle.std.specs.Prelude.{◌≡◌, List, ℕ, suc, ◌+◌, ◌*◌, ◌≤◌, ◌<◌, length, get_or}
 use Rattle.rules.specs.declared.Head.{Head}
-use Rattle.rules.specs.Tables.{most_slots, frame_width, header_width, cell, class_of, count_of, State, state_of}
+use Rattle.rules.specs.Tables.{most_slots, frame_width, header_width, cell, class_of, State, state_of}
 use Rattle.rules.specs.Calls.{Ready}
 use Rattle.rules.specs.Compress.{canonical_frames, canonical_classes, renumbered_in}
 use Rattle.slots.specs.Asked.{Within}

@@ -1,4 +1,4 @@
--- An answer that is refused, and one that is accepted, as numbers.
+-- A refusal's number and cause, and what its result says of them.
 use Rattle.std.specs.Prelude.{if◌then◌else◌, ◌==◌}
 use Prim.Native.Nat.{ℕ, ◌+◌, ◌*◌, ◌/◌, ◌%◌, ◌≤◌, ◌<◌}
 use native.Mathlib.Omega.{arith}
@@ -11,63 +11,12 @@ use lib.ListN.{get_or}
 use Rattle.rules.specs.declared.Cause.TheVariants.{NoSlot, FreeSlot, OtherGeneration}
 use Rattle.rules.specs.declared.Refusal.{Refusal}
 use Rattle.rules.specs.declared.Refusal.TheVariants.{Shape, Unsound, Dead, SameClass, NoElement, NoShared, Short, Malformed, NoFile, Nothing, Version, Sealed, OutOfRange}
-use Rattle.rules.specs.Refusals.{number_of, values_of, Said, said_refused, said_accepted}
+use Rattle.rules.specs.Refusals.{number_of, values_of, Said, said_refused}
 use Rattle.rules.specs.Calls.{Is}
-use Rattle.rules.specs.Answers.{said_beside}
 use Rattle.rules.proofs.Laws.Tests.{eq_is}
 use Rattle.numbers.specs.Numbers.{result_of, Answered}
 
--- a refused call leaves `out` as it was
-kept : (r : Refusal) (a b : List ℕ) → b ≡ (if number_of r == 0 then a else b)
-kept Shape a b = refl
-kept Unsound a b = refl
-kept (Dead cause) a b = refl
-kept SameClass a b = refl
-kept NoElement a b = refl
-kept NoShared a b = refl
-kept Short a b = refl
-kept Malformed a b = refl
-kept NoFile a b = refl
-kept Nothing a b = refl
-kept Version a b = refl
-kept Sealed a b = refl
-kept OutOfRange a b = refl
-
--- its result is what it is with nothing beside
-alike : (r : Refusal) (values : List ℕ) (over : Bool) → result_of (said_refused r) ≡ result_of (said_beside r values over)
-alike Shape values over = refl
-alike Unsound values over = refl
-alike (Dead cause) values over = refl
-alike SameClass values over = refl
-alike NoElement values over = refl
-alike NoShared values over = refl
-alike Short values over = refl
-alike Malformed values over = refl
-alike NoFile values over = refl
-alike Nothing values over = refl
-alike Version values over = refl
-alike Sealed values over = refl
-alike OutOfRange values over = refl
-
-pub refused : (numbers : Said → List ℕ) (said : Said) (r : Refusal) (values : List ℕ) (over : Bool) (out : List ℕ) (n : ℕ) → said ≡ said_beside r values over → n ≡ result_of (said_refused r) → Answered numbers said out n out
-refused numbers said r values over out n p q = record { number = rw p (q ∙ alike r values over); out = rw p (kept r (numbers (said_beside r values over)) out) }
-
--- a refusal's number and the cause above it make its result, which is small
-pub composed : (r : Refusal) → number_of r + 256 * get_or (values_of r []) 0 0 ≡ result_of (said_refused r)
-composed Shape = refl
-composed Unsound = refl
-composed (Dead cause) = refl
-composed SameClass = refl
-composed NoElement = refl
-composed NoShared = refl
-composed Short = refl
-composed Malformed = refl
-composed NoFile = refl
-composed Nothing = refl
-composed Version = refl
-composed Sealed = refl
-composed OutOfRange = refl
-
+-- both are small
 pub few : (r : Refusal) → (number_of r ≤ 13) × (get_or (values_of r []) 0 0 ≤ 3)
 few Shape = (lit≤ tt, lit≤ tt)
 few Unsound = (lit≤ tt, lit≤ tt)
@@ -85,7 +34,7 @@ few Version = (lit≤ tt, lit≤ tt)
 few Sealed = (lit≤ tt, lit≤ tt)
 few OutOfRange = (lit≤ tt, lit≤ tt)
 
--- from which both are read back: the low eight bits, and what stands above
+-- and both are read back from the result: the low eight bits, and what stands above
 pub number-back : (r : Refusal) → result_of (said_refused r) % 256 ≡ number_of r
 number-back Shape = refl
 number-back Unsound = refl
@@ -136,10 +85,6 @@ zero_result said = at (result_of said == 0) (said.number == 0) (eq_is (result_of
     at true false r n = absurd (n ((small said 0 (lit< tt)).0 r))
     at false true r n = absurd (r ((small said 0 (lit< tt)).1 n))
     at false false r n = refl
-
--- an accepted call writes it
-pub accepted : (numbers : Said → List ℕ) (said : Said) (values : List ℕ) (over : Bool) (out : List ℕ) → said ≡ said_accepted values over → Answered numbers said out 0 (numbers (said_accepted values over))
-accepted numbers said values over out p = record { number = rw p; out = rw p }
 
 -- no second result and `out` fit
 pub only : (numbers : Said → List ℕ) (said : Said) (before : List ℕ) (r r' : ℕ) (out out' : List ℕ) → Answered numbers said before r out → Answered numbers said before r' out' → (r ≡ r') × (out ≡ out')

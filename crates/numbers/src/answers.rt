@@ -1,10 +1,11 @@
-// What an answer is at the host: the number as the result, with the cause of 3 above it, and its values in `out`, which a refusal leaves as it was.
-ghost use Rattle.std.specs.Prelude.{◌≡◌, Bool, [], get_or};
-ghost use Rattle.rules.specs.Refusals.{number_of, cause_number, values_of, said_refused};
-ghost use Rattle.rules.specs.Answers.{said_done, said_number, said_same, said_inserted, said_joined, said_seal, said_removed, said_old};
-ghost use Rattle.numbers.specs.Numbers.{Answered, flag, result_of, values, values_over, removal_numbers};
+// What an answer is at the host: the number as the result, with the cause of 3 above it, and its numbers in `out`, which a refusal leaves as it was.
+ghost use Rattle.std.specs.Prelude.{◌≡◌, ℕ, List, [], get_or};
+ghost use Rattle.rules.specs.Refusals.{number_of, cause_number, values_of, Said, said_refused, said_accepted};
+ghost use Rattle.rules.specs.Answers.{no_values, one_value, yes_or_no, joined_values, seal_values, removed_values, old_values, said};
+ghost use Rattle.rules.specs.Runs.{key_values};
+ghost use Rattle.numbers.specs.Numbers.{Answered, result_of, values, values_over, removal_numbers};
 
-use rules::{Cause, Done, Inserted, Joined, Number, Refusal, Removed, Rest, Same, Seal};
+use rules::{Cause, Joined, Key, Refusal, Removed, Rest, Seal};
 
 // Refusals 1 to 13.
 pub fn number_of(r: Refusal) -> u64
@@ -49,159 +50,143 @@ pub fn cause_of(r: Refusal) -> u64
 }
 
 // Ticket 5: what a refusal has for a result, the cause of 3 above its number.
-fn result_of(r: Refusal) -> u64
+pub fn result_of(r: Refusal) -> u64
     ensures { result ≡ result_of (said_refused r) }
 {
-    let cause = cause_of(r);
-    number_of(r) + 256 * cause
+    number_of(r) + 256 * cause_of(r)
 }
 
-// Yes is 1 and no is 0.
-fn number_if(b: bool) -> u64
-    ensures { result ≡ flag b }
-{
-    if b {
-        return 1;
-    }
-    0
+// An accepted answer as the `N` numbers that an entry writes to `out`.
+pub trait Numbers<const N: usize> {
+    ghost values: { Self → List ℕ };
+
+    ghost shown: { Said → List ℕ };
+
+    fn numbers(self, over: bool) -> [u64; N]
+        ensures { result ≡ shown (said_accepted (values self) over) };
 }
 
-// An answer that has no values.
-pub fn plain(answer: Done) -> u64
-    ensures { (over : Bool) → Answered values (said_done answer over) [] result [] }
-{
-    match answer {
-        Done::Done => 0,
-        Done::Refused(refusal) => result_of(refusal),
-    }
-}
+impl Numbers<0> for () {
+    ghost values = { no_values };
 
-// An answer with the overflow mark alone.
-pub fn over_only(answer: Done, over: bool, out: &mut [u64; 1]) -> u64
-    ensures { Answered values_over (said_done answer over) out.old result out.new }
-{
-    match answer {
-        Done::Done => {
-            *out = [number_if(over)];
-            0
-        }
-        Done::Refused(refusal) => result_of(refusal),
+    ghost shown = { values };
+
+    fn numbers(self, _over: bool) -> [u64; 0] {
+        []
     }
 }
 
-// One number.
-pub fn number(answer: Number, out: &mut [u64; 1]) -> u64
-    ensures { (over : Bool) → Answered values (said_number answer over) out.old result out.new }
-{
-    match answer {
-        Number::Is(n) => {
-            *out = [n];
-            0
-        }
-        Number::Refused(refusal) => result_of(refusal),
+// The overflow mark alone.
+impl Numbers<1> for () {
+    ghost values = { no_values };
+
+    ghost shown = { values_over };
+
+    fn numbers(self, over: bool) -> [u64; 1] {
+        [u64::from(over)]
+    }
+}
+
+impl Numbers<1> for u64 {
+    ghost values = { one_value };
+
+    ghost shown = { values };
+
+    fn numbers(self, _over: bool) -> [u64; 1] {
+        [self]
     }
 }
 
 // One number and the overflow mark.
-pub fn number_over(answer: Number, over: bool, out: &mut [u64; 2]) -> u64
-    ensures { Answered values_over (said_number answer over) out.old result out.new }
-{
-    match answer {
-        Number::Is(n) => {
-            *out = [n, number_if(over)];
-            0
-        }
-        Number::Refused(refusal) => result_of(refusal),
+impl Numbers<2> for u64 {
+    ghost values = { one_value };
+
+    ghost shown = { values_over };
+
+    fn numbers(self, over: bool) -> [u64; 2] {
+        [self, u64::from(over)]
     }
 }
 
 // Yes or no.
-pub fn same(answer: Same, out: &mut [u64; 1]) -> u64
-    ensures { Answered values (said_same answer) out.old result out.new }
-{
-    match answer {
-        Same::Yes => {
-            *out = [1];
-            0
-        }
-        Same::No => {
-            *out = [0];
-            0
-        }
-        Same::Refused(refusal) => result_of(refusal),
+impl Numbers<1> for bool {
+    ghost values = { yes_or_no };
+
+    ghost shown = { values };
+
+    fn numbers(self, _over: bool) -> [u64; 1] {
+        [u64::from(self)]
     }
 }
 
 // The key of the frame that was put in.
-pub fn key(answer: Inserted, out: &mut [u64; 2]) -> u64
-    ensures { Answered values (said_inserted answer) out.old result out.new }
-{
-    match answer {
-        Inserted::At(key) => {
-            *out = [key.slot, key.generation];
-            0
-        }
-        Inserted::Refused(refusal) => result_of(refusal),
+impl Numbers<2> for Key {
+    ghost values = { key_values };
+
+    ghost shown = { values };
+
+    fn numbers(self, _over: bool) -> [u64; 2] {
+        [self.slot, self.generation]
     }
 }
 
 // The removed shared value, the kept class's key, the number of class entries rewritten.
-pub fn joined(answer: Joined, out: &mut [u64; 4]) -> u64
-    ensures { Answered values (said_joined answer) out.old result out.new }
-{
-    match answer {
-        Joined::Into { was, kept, moved } => {
-            *out = [was, kept.slot, kept.generation, moved];
-            0
-        }
-        Joined::Refused(refusal) => result_of(refusal),
+impl Numbers<4> for Joined {
+    ghost values = { joined_values };
+
+    ghost shown = { values };
+
+    fn numbers(self, _over: bool) -> [u64; 4] {
+        [self.was, self.kept.slot, self.kept.generation, self.moved]
     }
 }
 
 // The header's value and count.
-pub fn sealed(answer: Seal, out: &mut [u64; 2]) -> u64
-    ensures { Answered values (said_seal answer) out.old result out.new }
-{
-    match answer {
-        Seal::Is { value, count } => {
-            *out = [value, count];
-            0
-        }
-        Seal::Refused(refusal) => result_of(refusal),
+impl Numbers<2> for Seal {
+    ghost values = { seal_values };
+
+    ghost shown = { values };
+
+    fn numbers(self, _over: bool) -> [u64; 2] {
+        [self.value, self.count]
     }
 }
 
 // The payload, whether it was the run's last frame, then the shared value, and the overflow mark.
-pub fn removed(answer: Removed, over: bool, out: &mut [u64; 4]) -> u64
-    ensures { Answered removal_numbers (said_removed answer over) out.old result out.new }
-{
-    match answer {
-        Removed::Out { payload, rest } => {
-            let mark = number_if(over);
-            match rest {
-                Rest::GoesOn => {
-                    *out = [payload, 0, 0, mark];
-                    0
-                }
-                Rest::Last(value) => {
-                    *out = [payload, 1, value, mark];
-                    0
-                }
-            }
+impl Numbers<4> for Removed {
+    ghost values = { removed_values };
+
+    ghost shown = { removal_numbers };
+
+    fn numbers(self, over: bool) -> [u64; 4] {
+        let mark = u64::from(over);
+        match self.rest {
+            Rest::GoesOn => [self.payload, 0, 0, mark],
+            Rest::Last(value) => [self.payload, 1, value, mark],
         }
-        Removed::Refused(refusal) => result_of(refusal),
     }
 }
 
 // Four old values, in key order.
-pub fn four(answer: Done, old: [u64; 4], out: &mut [u64; 4]) -> u64
-    ensures { Answered values (said_old answer old) out.old result out.new }
+impl Numbers<4> for [u64; 4] {
+    ghost values = { old_values };
+
+    ghost shown = { values };
+
+    fn numbers(self, _over: bool) -> [u64; 4] {
+        self
+    }
+}
+
+// What a call that changes no head answers.
+pub fn told<T: Numbers<N>, const N: usize>(answer: Result<T, Refusal>, out: &mut [u64; N]) -> u64
+    ensures { Answered T.shown (said T.values answer) out.old result out.new }
 {
     match answer {
-        Done::Done => {
-            *out = old;
+        Ok(value) => {
+            *out = value.numbers(false);
             0
         }
-        Done::Refused(refusal) => result_of(refusal),
+        Err(refusal) => result_of(refusal),
     }
 }

@@ -5,11 +5,10 @@ use Prim.Native.Nat.{ℕ, zero, suc, ◌+◌, ◌*◌, ◌-◌, ◌≤◌, ◌<�
 use native.Mathlib.Omega.{arith}
 use native.Mathlib.Decide.{dec_lt}
 use lib.ListN.{length, get_or, get_or-eq_default}
-use Rattle.rules.specs.Tables.{frame_width, header_width, header_at, cell, class_of, count_of}
-use Rattle.slots.specs.Asked.{Within}
+use Rattle.rules.specs.Tables.{header_width, header_at, cell, class_of, count_of}
 use Rattle.copies.specs.Parts.{Zeroed}
-use Rattle.swaps.specs.Swaps.{Beside, slot_in, Permuting, Permuted}
-use Rattle.place.specs.Headers.{start, begins, named, counted, Blocks, Noted, Counted, Recovered, Placeable, Placed}
+use Rattle.swaps.specs.Swaps.{slot_in, Permuting, Permuted}
+use Rattle.place.specs.Headers.{start, begins, named, counted, Noted, Counted, Recovered, Placeable, Placed}
 use Rattle.swaps.proofs.Exchanges.{beside_trans}
 
 module _ (m : ℕ) (e s : List ℕ) (P : Placeable m e s) where

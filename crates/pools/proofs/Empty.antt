@@ -1,33 +1,34 @@
--- Zeros, place by place.
-use mathlib.Core.Path.{◌≡◌, refl, subst}
-use mathlib.Core.List.{List}
-use Prim.Native.Nat.{ℕ, zero, suc, ◌+◌, ◌*◌, ◌/◌, ◌%◌, ◌≤◌, ◌<◌}
-use native.Mathlib.Nat.{mul-le-mul_right, le_of_suc-le-suc, div-add-mod', mod-lt}
-use native.Mathlib.Omega.{arith}
-use native.Mathlib.Decide.{ℕ_discrete, dec_lt}
-use lib.ListN.{length, get_or, get_or-eq_default}
-use lib.Bits.{bit_or, or_add_and, and_le_l, and_le_r}
-use Rattle.rules.specs.Tables.{cell}
-use Rattle.rules.proofs.Laws.Chains.{Both}
+-- Zeros, word by word.
+use Rattle.std.proofs.Common.{◌≡◌, ℕ, zero, suc, ◌+◌, ◌-◌, ◌≤◌, ◌==◌, List, [], ◌∷◌, get_or, drop, bit_or, refl, sym, ap, ◌∙◌, arith}
+use Rattle.std.specs.List.{fold}
+use Rattle.std.proofs.lemmas.List.{get_or-drop}
+use lib.Bits.{or_add_and, and_le_l, and_le_r}
+use Rattle.rules.specs.Calls.{Is}
+use Rattle.rules.proofs.Laws.Tests.{eq_is}
 use Rattle.pools.specs.Pools.{Zeros}
+use Rattle.pools.proofs.Ask.{is_like}
 
--- ---- the loop that gathers them
 or_none : (a b : ℕ) → bit_or a b ≡ 0 → (a ≡ 0) × (b ≡ 0)
 or_none a b e = (omega (arith, or_add_and a b, and_le_r a b), omega (arith, or_add_and a b, and_le_l a b))
 
-abbrev pub ZeroTo : List ℕ → ℕ → ℕ → Type 0
-ZeroTo t from to = (i : ℕ) → from ≤ i → i < to → get_or t i 0 ≡ 0
-
-pub zero_more : (t : List ℕ) (from i any : ℕ) → from ≤ i → Both (any ≡ 0) (ZeroTo t from i) → Both (bit_or any (get_or t i 0) ≡ 0) (ZeroTo t from (i + 1))
-zero_more t from i any l b = (λ e j lo hi. more e j lo hi (ℕ_discrete j i), λ z. rw (b.1 (λ j lo hi. z j lo (omega arith)), z i l (omega arith)) refl)
+-- an OR of words is 0 exactly if each of them is
+or_each : (any : ℕ) (words : List ℕ) → fold bit_or any words ≡ 0 → (any ≡ 0) × ((i : ℕ) → get_or words i 0 ≡ 0)
+or_each any [] e = (e, λ i. refl)
+or_each any (w ∷ words) e =
+    let rest = or_each (bit_or any w) words e in
+    let both = or_none any w rest.0 in
+    (both.0, λ i. at i both.1 rest.1)
   where
-    more : bit_or any (get_or t i 0) ≡ 0 → (j : ℕ) → from ≤ j → j < i + 1 → Dec (j ≡ i) → get_or t j 0 ≡ 0
-    more e j lo hi (yes q) = rw q (or_none any (get_or t i 0) e).1
-    more e j lo hi (no q) = b.0 (or_none any (get_or t i 0) e).0 j lo (omega arith)
+    at : (i : ℕ) → w ≡ 0 → ((j : ℕ) → get_or words j 0 ≡ 0) → get_or (w ∷ words) i 0 ≡ 0
+    at zero h r = h
+    at (suc i) h r = r i
 
-pub zero-past : (t : List ℕ) (from i : ℕ) → length t ≤ i → ZeroTo t from i → Zeros t from
-zero-past t from i l z j lo = go (dec_lt j i)
+each_or : (words : List ℕ) → ((i : ℕ) → get_or words i 0 ≡ 0) → fold bit_or 0 words ≡ 0
+each_or [] z = refl
+each_or (w ∷ words) z = let h : w ≡ 0 = z 0 in rw h (each_or words (λ i. z (suc i)))
+
+pub zeros_by_or : (t : List ℕ) (from any : ℕ) → any ≡ fold bit_or 0 (drop from t) → Is (Zeros t from) (any == 0)
+zeros_by_or t from any e = is_like (any == 0) (λ z i h. past i h ((or_each 0 (drop from t) (sym e ∙ z)).1 (i - from))) (λ z. e ∙ each_or (drop from t) (λ i. get_or-drop from t i 0 ∙ z (from + i) (omega arith))) (eq_is any 0)
   where
-    go : Dec (j < i) → get_or t j 0 ≡ 0
-    go (yes h) = z j lo h
-    go (no h) = get_or-eq_default t 0 (omega arith)
+    past : (i : ℕ) → from ≤ i → get_or (drop from t) (i - from) 0 ≡ 0 → get_or t i 0 ≡ 0
+    past i h z = let e : from + (i - from) ≡ i = omega arith in ap (λ (j : ℕ). get_or t j 0) (sym e) ∙ sym (get_or-drop from t (i - from) 0) ∙ z

@@ -32,11 +32,9 @@ pub fn rank(t: &mut [u64], width: u64, used: u64, into: u64, slots: u64)
     requires { Fields width t.old used into slots }
     ensures { Ranked width t.old used into slots t.new }
 {
-    let mut k: u64 = 0;
     let mut ranked: u64 = 0;
-    while k < slots {
+    for k in 0..slots {
         ranked = rank_one(t, width, used, into, k + 1, ranked);
-        k += 1;
     }
 }
 
@@ -65,24 +63,19 @@ pub fn rename(elems: &mut [u64], shared: &[u64], slots: u64)
     requires { Renameable elems.old shared.now slots }
     ensures { Renamed elems.old shared.now slots elems.new }
 {
-    let mut k: u64 = 0;
-    while k < slots {
+    for k in 0..slots {
         rename_one(elems, shared, k + 1);
-        k += 1;
     }
 }
 
 // The slot `to` becomes what the slot `from` is.
 fn shift(t: &mut [u64], width: u64, from: u64, to: u64)
     requires { Within width t.old from × Within width t.old to }
-    ensures { Shifted width t.old from to width t.new }
+    ensures { Shifted width t.old from to t.new }
 {
-    let mut field: u64 = 0;
-    while field < width {
-        let value = get(t, width, field, from);
-        put(t, width, to, field, value);
-        field += 1;
-    }
+    let start = ((from - 1) * width) as usize;
+    let place = ((to - 1) * width) as usize;
+    t.copy_within(start..start + width as usize, place);
 }
 
 // One slot: if it is live, it moves down to the slot past the `packed` ones, with `value` in the field `into`.
@@ -112,11 +105,9 @@ fn pack(t: &mut [u64], width: u64, used: u64, into: u64, value: u64, slots: u64)
     requires { Fields width t.old used into slots }
     ensures { Packed width t.old used into value slots t.new result }
 {
-    let mut k: u64 = 0;
     let mut packed: u64 = 0;
-    while k < slots {
+    for k in 0..slots {
         packed = pack_one(t, width, used, into, value, k + 1, packed);
-        k += 1;
     }
     packed
 }
@@ -159,10 +150,8 @@ pub fn tell(elems: &[u64], out: &mut [u64], generation: u64, slots: u64)
     requires { Room elems.now out.old slots }
     ensures { Told elems.now out.old generation slots out.new }
 {
-    let mut k: u64 = 0;
     let mut told: u64 = 0;
-    while k < slots {
+    for k in 0..slots {
         told = tell_one(elems, out, generation, k + 1, told);
-        k += 1;
     }
 }

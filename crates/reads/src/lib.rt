@@ -2,106 +2,112 @@
 // Ported from len_surject, in_same_surject and get_shared of surject_arena.rs (triple_arena 0.15.1, NOTICE).
 #![tactic(auto)]
 
-ghost use Rattle.std.specs.Prelude.{◌≡◌, false, []};
-ghost use Rattle.rules.specs.Tables.{state_of};
+ghost use Rattle.std.specs.Prelude.{◌≡◌, ◌<◌, [], ◌∷◌};
+ghost use Rattle.rules.specs.Tables.{frame_width, header_width, cell, class_of, state_of};
+ghost use Rattle.rules.specs.Refusals.{outcome, answer, with_live};
 ghost use Rattle.rules.specs.Calls.{Ready, step, len_surject, in_same_surject, get_element, get_shared, get_size, get_total, lookup};
-ghost use Rattle.rules.specs.Answers.{leaves, said_done, said_number, said_same};
+ghost use Rattle.rules.specs.Answers.{no_values, one_value, yes_or_no, leaves, said};
 
-use rules::{
-    CLASS, COUNT, Done, FRAME, Found, HEADER, Head, Key, Number, PAYLOAD, Refusal, SIZE, Same,
-    TOTAL, VALUE,
-};
+use rules::{CLASS, COUNT, FRAME, HEADER, Head, Key, PAYLOAD, Refusal, SIZE, TOTAL, VALUE};
+
+// A field of the key's frame.
+fn frame_field(
+    head: Head,
+    elems: &[u64],
+    shared: &[u64],
+    key: Key,
+    field: u64,
+) -> Result<u64, Refusal>
+    requires { Ready (state_of head elems.now shared.now) × (field < frame_width) }
+    ensures { leaves head elems.now shared.now [] (said one_value result) ≡ outcome (state_of head elems.now shared.now) [] (with_live (state_of head elems.now shared.now) key (λ x. answer (cell frame_width elems.now field x ∷ []) (state_of head elems.now shared.now))) }
+{
+    let x = slots::find(head, elems, key)?;
+    Ok(slots::get(elems, FRAME, field, x))
+}
+
+// A field of the header of the key's run.
+fn header_field(
+    head: Head,
+    elems: &[u64],
+    shared: &[u64],
+    key: Key,
+    field: u64,
+) -> Result<u64, Refusal>
+    requires { Ready (state_of head elems.now shared.now) × (field < header_width) }
+    ensures { leaves head elems.now shared.now [] (said one_value result) ≡ outcome (state_of head elems.now shared.now) [] (with_live (state_of head elems.now shared.now) key (λ x. answer (cell header_width shared.now field (class_of elems.now x) ∷ []) (state_of head elems.now shared.now))) }
+{
+    let x = slots::find(head, elems, key)?;
+    let class = slots::get(elems, FRAME, CLASS, x);
+    Ok(slots::get(shared, HEADER, field, class))
+}
 
 // The number of frames in the key's class.
-pub fn len_surject(head: Head, elems: &[u64], shared: &[u64], key: Key) -> Number
+#[tactic(auto, unfolding(rules::specs::Reads::len_surject))]
+pub fn len_surject(head: Head, elems: &[u64], shared: &[u64], key: Key) -> Result<u64, Refusal>
     requires { Ready (state_of head elems.now shared.now) }
-    ensures { leaves head elems.now shared.now [] (said_number result false) ≡ step (state_of head elems.now shared.now) [] (len_surject key) }
+    ensures { leaves head elems.now shared.now [] (said one_value result) ≡ step (state_of head elems.now shared.now) [] (len_surject key) }
 {
-    let x = match slots::find(head, elems, key) {
-        Found::Live(x) => x,
-        Found::Dead(cause) => return Number::Refused(Refusal::Dead(cause)),
-    };
-    let class = slots::get(elems, FRAME, CLASS, x);
-    Number::Is(slots::get(shared, HEADER, COUNT, class))
+    header_field(head, elems, shared, key, COUNT)
 }
 
 // Whether both keys have one class slot.
-pub fn in_same_surject(head: Head, elems: &[u64], shared: &[u64], j: Key, k: Key) -> Same
+pub fn in_same_surject(
+    head: Head,
+    elems: &[u64],
+    shared: &[u64],
+    j: Key,
+    k: Key,
+) -> Result<bool, Refusal>
     requires { Ready (state_of head elems.now shared.now) }
-    ensures { leaves head elems.now shared.now [] (said_same result) ≡ step (state_of head elems.now shared.now) [] (in_same_surject j k) }
+    ensures { leaves head elems.now shared.now [] (said yes_or_no result) ≡ step (state_of head elems.now shared.now) [] (in_same_surject j k) }
 {
-    let x = match slots::find(head, elems, j) {
-        Found::Live(x) => x,
-        Found::Dead(cause) => return Same::Refused(Refusal::Dead(cause)),
-    };
-    let y = match slots::find(head, elems, k) {
-        Found::Live(y) => y,
-        Found::Dead(cause) => return Same::Refused(Refusal::Dead(cause)),
-    };
+    let x = slots::find(head, elems, j)?;
+    let y = slots::find(head, elems, k)?;
     let class = slots::get(elems, FRAME, CLASS, x);
-    if class == slots::get(elems, FRAME, CLASS, y) {
-        return Same::Yes;
-    }
-    Same::No
+    Ok(class == slots::get(elems, FRAME, CLASS, y))
 }
 
 // The payload.
-pub fn get(head: Head, elems: &[u64], shared: &[u64], key: Key) -> Number
+#[tactic(auto, unfolding(rules::specs::Reads::get_element))]
+pub fn get(head: Head, elems: &[u64], shared: &[u64], key: Key) -> Result<u64, Refusal>
     requires { Ready (state_of head elems.now shared.now) }
-    ensures { leaves head elems.now shared.now [] (said_number result false) ≡ step (state_of head elems.now shared.now) [] (get_element key) }
+    ensures { leaves head elems.now shared.now [] (said one_value result) ≡ step (state_of head elems.now shared.now) [] (get_element key) }
 {
-    let x = match slots::find(head, elems, key) {
-        Found::Live(x) => x,
-        Found::Dead(cause) => return Number::Refused(Refusal::Dead(cause)),
-    };
-    Number::Is(slots::get(elems, FRAME, PAYLOAD, x))
+    frame_field(head, elems, shared, key, PAYLOAD)
 }
 
 // The class's value.
-pub fn get_shared(head: Head, elems: &[u64], shared: &[u64], key: Key) -> Number
+#[tactic(auto, unfolding(rules::specs::Reads::get_shared))]
+pub fn get_shared(head: Head, elems: &[u64], shared: &[u64], key: Key) -> Result<u64, Refusal>
     requires { Ready (state_of head elems.now shared.now) }
-    ensures { leaves head elems.now shared.now [] (said_number result false) ≡ step (state_of head elems.now shared.now) [] (get_shared key) }
+    ensures { leaves head elems.now shared.now [] (said one_value result) ≡ step (state_of head elems.now shared.now) [] (get_shared key) }
 {
-    let x = match slots::find(head, elems, key) {
-        Found::Live(x) => x,
-        Found::Dead(cause) => return Number::Refused(Refusal::Dead(cause)),
-    };
-    let class = slots::get(elems, FRAME, CLASS, x);
-    Number::Is(slots::get(shared, HEADER, VALUE, class))
+    header_field(head, elems, shared, key, VALUE)
 }
 
 // Ticket 6: the frame's size.
-pub fn get_size(head: Head, elems: &[u64], shared: &[u64], key: Key) -> Number
+#[tactic(auto, unfolding(rules::specs::Reads::get_size))]
+pub fn get_size(head: Head, elems: &[u64], shared: &[u64], key: Key) -> Result<u64, Refusal>
     requires { Ready (state_of head elems.now shared.now) }
-    ensures { leaves head elems.now shared.now [] (said_number result false) ≡ step (state_of head elems.now shared.now) [] (get_size key) }
+    ensures { leaves head elems.now shared.now [] (said one_value result) ≡ step (state_of head elems.now shared.now) [] (get_size key) }
 {
-    let x = match slots::find(head, elems, key) {
-        Found::Live(x) => x,
-        Found::Dead(cause) => return Number::Refused(Refusal::Dead(cause)),
-    };
-    Number::Is(slots::get(elems, FRAME, SIZE, x))
+    frame_field(head, elems, shared, key, SIZE)
 }
 
 // Ticket 6: the total of its run.
-pub fn get_total(head: Head, elems: &[u64], shared: &[u64], key: Key) -> Number
+#[tactic(auto, unfolding(rules::specs::Reads::get_total))]
+pub fn get_total(head: Head, elems: &[u64], shared: &[u64], key: Key) -> Result<u64, Refusal>
     requires { Ready (state_of head elems.now shared.now) }
-    ensures { leaves head elems.now shared.now [] (said_number result false) ≡ step (state_of head elems.now shared.now) [] (get_total key) }
+    ensures { leaves head elems.now shared.now [] (said one_value result) ≡ step (state_of head elems.now shared.now) [] (get_total key) }
 {
-    let x = match slots::find(head, elems, key) {
-        Found::Live(x) => x,
-        Found::Dead(cause) => return Number::Refused(Refusal::Dead(cause)),
-    };
-    let class = slots::get(elems, FRAME, CLASS, x);
-    Number::Is(slots::get(shared, HEADER, TOTAL, class))
+    header_field(head, elems, shared, key, TOTAL)
 }
 
 // Ticket 5: whether the key is live, and why not.
-pub fn lookup(head: Head, elems: &[u64], shared: &[u64], key: Key) -> Done
+pub fn lookup(head: Head, elems: &[u64], shared: &[u64], key: Key) -> Result<(), Refusal>
     requires { Ready (state_of head elems.now shared.now) }
-    ensures { leaves head elems.now shared.now [] (said_done result false) ≡ step (state_of head elems.now shared.now) [] (lookup key) }
+    ensures { leaves head elems.now shared.now [] (said no_values result) ≡ step (state_of head elems.now shared.now) [] (lookup key) }
 {
-    match slots::find(head, elems, key) {
-        Found::Live(_) => Done::Done,
-        Found::Dead(cause) => Done::Refused(Refusal::Dead(cause)),
-    }
+    slots::find(head, elems, key)?;
+    Ok(())
 }

@@ -13,16 +13,16 @@ use Rattle.rules.specs.declared.Rest.TheVariants.{GoesOn, Last}
 use Rattle.rules.specs.Tables.{class_of, previous_of, next_of, bytes_of, count_of, value_of, total_of, State, state_of, with_shared, with_generation}
 use Rattle.rules.specs.Slots.{free_element, free_shared, raised, raise}
 use Rattle.rules.specs.Runs.{counted, linked, unlinked, left, removed}
-use Rattle.removes.specs.declared.Left.{Left}
+use Rattle.rules.specs.declared.Step.{Step}
 use Rattle.removes.specs.Removal.{LeftClass}
 
-module _ (st : State) (c z : ℕ) (r : Left) (s : List ℕ) where
-  pub left-last : count_of st.shared c ≡ 1 → state_of r.head st.elems s ≡ free_shared st c → r.rest ≡ Last (value_of st.shared c) → LeftClass st c z r s
+module _ (st : State) (c z : ℕ) (r : Step Rest) (s : List ℕ) where
+  pub left-last : count_of st.shared c ≡ 1 → state_of r.head st.elems s ≡ free_shared st c → r.answer ≡ Last (value_of st.shared c) → LeftClass st c z r s
   unfolding left
   left-last e p q = record { state = simp (eq-eqb _ _ e) p; rest = simp (eq-eqb _ _ e) q }
 
   pub left-on : count_of st.shared c ≢ 1
-      → state_of r.head st.elems s ≡ with_shared st (counted st.shared c (count_of st.shared c - 1) (total_of st.shared c - z)) → r.rest ≡ GoesOn → LeftClass st c z r s
+      → state_of r.head st.elems s ≡ with_shared st (counted st.shared c (count_of st.shared c - 1) (total_of st.shared c - z)) → r.answer ≡ GoesOn → LeftClass st c z r s
   unfolding left
   left-on n p q = record { state = simp (ne_eqb _ _ n) p; rest = simp (ne_eqb _ _ n) q }
 

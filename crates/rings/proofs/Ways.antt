@@ -9,7 +9,7 @@ use borrow.Author.Tests.{le-leb, lt-leb}
 use lib.ListN.{length}
 use lib.Seq.{sets}
 use Rattle.rules.specs.declared.Key.{Key}
-use Rattle.rules.specs.declared.Found.TheVariants as lookup
+use Rattle.std.specs.Prelude.{Ok, Err}
 use Rattle.rules.specs.declared.Cause.{Cause}
 use Rattle.rules.specs.declared.Refusal.TheVariants.{Dead, Short}
 use Rattle.rules.specs.Tables.{State, found, size_at}
@@ -21,13 +21,13 @@ module _ (st : State) (lent : List ℕ) (k : Key) (width : ℕ) (next : ℕ → 
   abbrev pub run_written : Ruling
   run_written = with_live st k λ x. if is_short lent (size_at st x) width then refuse Short else accept (size_at st x ∷ []) false (next x) (places x)
 
-  pub written_3 : {cause : Cause} → found st k ≡ lookup.Dead cause → outcome st lent (refuse (Dead cause)) ≡ outcome st lent run_written
+  pub written_3 : {cause : Cause} → found st k ≡ Err cause → outcome st lent (refuse (Dead cause)) ≡ outcome st lent run_written
   written_3 p = simp p
 
-  pub written_7 : (x : ℕ) → found st k ≡ lookup.Live x → length lent < size_at st x * width → outcome st lent (refuse Short) ≡ outcome st lent run_written
+  pub written_7 : (x : ℕ) → found st k ≡ Ok x → length lent < size_at st x * width → outcome st lent (refuse Short) ≡ outcome st lent run_written
   written_7 x p l = simp (p, le-leb _ _ l)
 
-  pub written-done : (x : ℕ) (s : State) (out : List ℕ) → found st k ≡ lookup.Live x → size_at st x * width ≤ length lent → length (places x) ≡ size_at st x * width
+  pub written-done : (x : ℕ) (s : State) (out : List ℕ) → found st k ≡ Ok x → size_at st x * width ≤ length lent → length (places x) ≡ size_at st x * width
       → s ≡ next x → out ≡ sets lent 0 (places x) → record { said = said_accepted (size_at st x ∷ []) false; state = s; lent = out } ≡ outcome st lent run_written
   written-done x s out p l long e f =
       let fits : size_at st x * width < suc (length lent) = omega arith in

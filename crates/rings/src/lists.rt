@@ -5,12 +5,12 @@ ghost use Rattle.rules.specs.Tables.{row, state_of, size_at};
 ghost use Rattle.rules.specs.Drains.{key_width};
 ghost use Rattle.rules.specs.Calls as calls;
 ghost use Rattle.rules.specs.Calls.{Ready, step};
-ghost use Rattle.rules.specs.Answers.{leaves, said_number};
+ghost use Rattle.rules.specs.Answers.{one_value, leaves, said};
 ghost use Rattle.slots.specs.Asked.{Within, Along};
 ghost use Rattle.slots.specs.Asked.{OnLive};
 ghost use Rattle.rings.specs.Answered.{keys_along};
 
-use rules::{CLASS, COUNT, FRAME, Found, GENERATION, HEADER, Head, Key, NEXT, Number, Refusal};
+use rules::{CLASS, COUNT, FRAME, GENERATION, HEADER, Head, Key, NEXT, Refusal};
 
 // Numbers to a place of a list (docs/LAYOUT.md); in the rules, key_width.
 pub const KEY_WIDTH: u64 = 2;
@@ -25,6 +25,7 @@ pub fn size_at(head: Head, elems: &[u64], shared: &[u64], x: u64) -> u64
 }
 
 // A key is written at a place, counted from 1.
+#[tactic(auto, using(slots::proofs::Places::row_puts))]
 fn write_key(out: &mut [u64], place: u64, slot: u64, generation: u64)
     requires { Within key_width out.old place }
     ensures { out.new ≡ row key_width out.old place (slot ∷ generation ∷ []) }
@@ -38,31 +39,30 @@ fn write_keys(elems: &[u64], n: u64, x: u64, out: &mut [u64])
     requires { Along elems.now n x × (n * key_width ≤ length out.old) }
     ensures { out.new ≡ sets out.old 0 (keys_along elems.now n x) }
 {
-    let mut left = n;
     let mut at = x;
-    let mut written: u64 = 0;
-    while 0 < left {
+    for written in 0..n {
         let generation = slots::get(elems, FRAME, GENERATION, at);
         write_key(out, written + 1, at, generation);
         at = slots::get(elems, FRAME, NEXT, at);
-        written = written + 1;
-        left = left - 1;
     }
 }
 
 // The keys of the run, in ring order from the given one.
-pub fn list(head: Head, elems: &[u64], shared: &[u64], key: Key, out: &mut [u64]) -> Number
+pub fn list(
+    head: Head,
+    elems: &[u64],
+    shared: &[u64],
+    key: Key,
+    out: &mut [u64],
+) -> Result<u64, Refusal>
     requires { Ready (state_of head elems.now shared.now) }
-    ensures { leaves head elems.now shared.now out.new (said_number result false) ≡ step (state_of head elems.now shared.now) out.old (calls.list key) }
+    ensures { leaves head elems.now shared.now out.new (said one_value result) ≡ step (state_of head elems.now shared.now) out.old (calls.list key) }
 {
-    let x = match slots::find(head, elems, key) {
-        Found::Live(x) => x,
-        Found::Dead(cause) => return Number::Refused(Refusal::Dead(cause)),
-    };
+    let x = slots::find(head, elems, key)?;
     let size = size_at(head, elems, shared, x);
     if (out.len() as u64) < size * KEY_WIDTH {
-        return Number::Refused(Refusal::Short);
+        return Err(Refusal::Short);
     }
     write_keys(elems, size, x, out);
-    Number::Is(size)
+    Ok(size)
 }

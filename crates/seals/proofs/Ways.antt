@@ -8,7 +8,7 @@ use borrow.Author.Tests.{le-leb, lt-leb}
 use lib.ListN.{length}
 use lib.Seq.{sets}
 use Rattle.rules.specs.declared.Key.{Key}
-use Rattle.rules.specs.declared.Found.TheVariants as lookup
+use Rattle.std.specs.Prelude.{Ok, Err}
 use Rattle.rules.specs.declared.Cause.{Cause}
 use Rattle.rules.specs.declared.Refusal.TheVariants.{Dead, Short, Sealed}
 use Rattle.rules.specs.Tables.{header_width, header_at, put, class_of, value_of, State, with_shared, forgetting, found, size_at, is_sealed}
@@ -22,11 +22,11 @@ use Rattle.rings.proofs.Listing.{places_long}
 use Rattle.seals.specs.Answered.{frame_place}
 
 module _ (st : State) (lent : List ℕ) (k : Key) where
-  pub seal_3 : {cause : Cause} → found st k ≡ lookup.Dead cause → outcome st lent (refuse (Dead cause)) ≡ step st lent (calls.seal k)
+  pub seal_3 : {cause : Cause} → found st k ≡ Err cause → outcome st lent (refuse (Dead cause)) ≡ step st lent (calls.seal k)
   unfolding seal
   seal_3 p = simp p
 
-  module _ (x : ℕ) (live : found st k ≡ lookup.Live x) where
+  module _ (x : ℕ) (live : found st k ≡ Ok x) where
     pub seal_12 : is_sealed st x ≡ true → outcome st lent (refuse Sealed) ≡ step st lent (calls.seal k)
     unfolding seal
     seal_12 s = simp (live, s)

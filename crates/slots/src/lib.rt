@@ -14,6 +14,7 @@ use rules::{
 };
 
 // A field of a slot.
+#[tactic(auto, using(rules::proofs::Laws::Columns::cell_index))]
 pub fn get(t: &[u64], width: u64, field: u64, slot: u64) -> u64
     requires { Cell width t.now field slot }
     ensures { result ≡ cell width t.now field slot }
@@ -21,6 +22,7 @@ pub fn get(t: &[u64], width: u64, field: u64, slot: u64) -> u64
     t[((slot - 1) * width + field) as usize]
 }
 
+#[tactic(auto, using(rules::proofs::Laws::Columns::put_index))]
 pub fn put(t: &mut [u64], width: u64, slot: u64, field: u64, value: u64)
     requires { Cell width t.old field slot }
     ensures { t.new ≡ put width t.old slot field value }
@@ -29,6 +31,7 @@ pub fn put(t: &mut [u64], width: u64, slot: u64, field: u64, value: u64)
 }
 
 // All fields of an element slot.
+#[tactic(auto, using(crate::proofs::Places::row_puts))]
 pub fn write_frame(
     e: &mut [u64],
     slot: u64,
@@ -51,6 +54,7 @@ pub fn write_frame(
 }
 
 // All fields of a shared slot, whose run is not sealed.
+#[tactic(auto, using(crate::proofs::Places::row_puts))]
 pub fn write_header(s: &mut [u64], slot: u64, count: u64, value: u64, next: u64, total: u64)
     requires { Within header_width s.old slot }
     ensures { s.new ≡ row header_width s.old slot (count ∷ value ∷ next ∷ 0 ∷ total ∷ []) }
@@ -72,6 +76,7 @@ pub fn recount(s: &mut [u64], class: u64, count: u64, total: u64)
 }
 
 // Rules 3, taking an element slot.
+#[tactic(auto, unfolding(rules::specs::Slots::taken))]
 pub fn take_frame(head: Head, elems: &[u64]) -> Head
     requires { Takes head.elems frame_width elems.now }
     ensures { (s : List ℕ) → result ≡ with_pools head (taken (elem_side (state_of head elems.now s))) head.shared }
@@ -85,6 +90,7 @@ pub fn take_frame(head: Head, elems: &[u64]) -> Head
 }
 
 // Rules 3, taking a shared slot.
+#[tactic(auto, unfolding(rules::specs::Slots::taken))]
 pub fn take_header(head: Head, shared: &[u64]) -> Head
     requires { Takes head.shared header_width shared.now }
     ensures { (e : List ℕ) → result ≡ with_pools head head.elems (taken (shared_side (state_of head e shared.now))) }
@@ -98,6 +104,7 @@ pub fn take_header(head: Head, shared: &[u64]) -> Head
 }
 
 // Rules 3, freeing an element slot.
+#[tactic(auto, unfolding(rules::specs::Slots::free_element, rules::specs::Slots::free_slot))]
 pub fn free_frame(head: Head, elems: &mut [u64], slot: u64) -> Head
     requires { Within frame_width elems.old slot × (1 ≤ head.elems.live) }
     ensures { (s : List ℕ) → state_of result elems.new s ≡ free_element (state_of head elems.old s) slot }
@@ -107,6 +114,7 @@ pub fn free_frame(head: Head, elems: &mut [u64], slot: u64) -> Head
 }
 
 // Rules 3, freeing a shared slot.
+#[tactic(auto, unfolding(rules::specs::Slots::free_shared, rules::specs::Slots::free_slot))]
 pub fn free_header(head: Head, shared: &mut [u64], slot: u64) -> Head
     requires { Within header_width shared.old slot × (1 ≤ head.shared.live) }
     ensures { (e : List ℕ) → state_of result e shared.new ≡ free_shared (state_of head e shared.old) slot }
@@ -121,10 +129,7 @@ pub fn find(head: Head, elems: &[u64], key: Key) -> Result<u64, Cause>
     ensures { (s : List ℕ) → Looks (state_of head elems.now s) key result }
 {
     let slot = key.slot;
-    if slot == 0 {
-        return Err(Cause::NoSlot);
-    }
-    if head.elems.extent < slot {
+    if slot == 0 || head.elems.extent < slot {
         return Err(Cause::NoSlot);
     }
     let generation = get(elems, FRAME, GENERATION, slot);
@@ -148,6 +153,7 @@ pub fn is_sealed(head: Head, elems: &[u64], shared: &[u64], x: u64) -> bool
 }
 
 // Rules 6 and 7: the slot `b` stands immediately after `a`.
+#[tactic(auto, unfolding(rules::specs::Runs::linked))]
 pub fn link(e: &mut [u64], a: u64, b: u64)
     requires { Within frame_width e.old a × Within frame_width e.old b }
     ensures { e.new ≡ linked e.old a b }
@@ -157,6 +163,7 @@ pub fn link(e: &mut [u64], a: u64, b: u64)
 }
 
 // Rules 5: the slot `y` is written as a frame immediately after `x`, in its class, which is the answer.
+#[tactic(auto, unfolding(crate::specs::Answered::spliced))]
 pub fn splice(e: &mut [u64], x: u64, y: u64, generation: u64, payload: u64, size: u64) -> u64
     requires { Next e.old x × Within frame_width e.old y }
     ensures { (result ≡ class_of e.old x) × (e.new ≡ spliced e.old x y generation payload size) }
@@ -170,6 +177,7 @@ pub fn splice(e: &mut [u64], x: u64, y: u64, generation: u64, payload: u64, size
 }
 
 // Rules 6: the next links of `x` and `y` are exchanged, previous links following.
+#[tactic(auto, unfolding(rules::specs::Runs::exchanged))]
 pub fn exchange(e: &mut [u64], x: u64, y: u64)
     requires { Next e.old x × Next e.old y }
     ensures { e.new ≡ exchanged e.old x y }
@@ -195,12 +203,10 @@ pub fn rewrite(e: &mut [u64], n: u64, x: u64, class: u64)
     requires { Along e.old n x }
     ensures { e.new ≡ rewritten n e.old x class }
 {
-    let mut left = n;
     let mut at = x;
-    while 0 < left {
+    for _ in 0..n {
         let next = get(e, FRAME, NEXT, at);
         put(e, FRAME, at, CLASS, class);
         at = next;
-        left = left - 1;
     }
 }

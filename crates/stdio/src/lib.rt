@@ -13,28 +13,25 @@ pub struct Sent {
     count: u64,
 }
 
-pub fn nothing_sent(to: Stdout) -> Sent
-    ensures { Handed result [] }
-{
-    Sent { to, count: 0 }
-}
+impl Sent {
+    pub fn nothing(to: Stdout) -> Sent
+        ensures { Handed result [] }
+    {
+        Sent { to, count: 0 }
+    }
 
-// Bytes are handed to the writer. What becomes of them there, and whether the write fails, no contract of the kit says.
-pub fn send(sent: Sent, bytes: &[u8]) -> Sent
-    ensures { (gone : List ℕ) → Handed sent gone → Handed result (gone ++ bytes.now) }
-{
-    let to = sent.to;
-    let _ = to.write_all(bytes);
-    let count = std::num::wrapping_add_u64(sent.count, bytes.len() as u64);
-    Sent { to, count }
+    // Bytes are handed to the writer. What becomes of them there, and whether the write fails, no contract of the kit says.
+    pub fn send(&mut self, bytes: &[u8])
+        ensures { (gone : List ℕ) → Handed self.old gone → Handed self.new (gone ++ bytes.now) }
+    {
+        let _ = self.to.write_all(bytes);
+        self.count = self.count.wrapping_add(bytes.len() as u64);
+    }
 }
 
 // How many bytes of the input came into the block: none at its end, or where the read fails.
-pub fn receive(mut from: Stdin, block: &mut [u8]) -> usize
+pub fn receive(from: &mut Stdin, block: &mut [u8]) -> usize
     ensures { (result ≤ length block.new) × (result ≡ length (take result block.new)) }
 {
-    match from.read(block) {
-        Ok(n) => n,
-        Err(_) => 0,
-    }
+    from.read(block).unwrap_or(0)
 }

@@ -1,9 +1,8 @@
 -- Pass 2 on the tables: two slots exchanged field by field, and the loop that keeps the swaps' invariant.
-use Rattle.std.specs.Prelude.{if◌then◌else◌, ◌==◌}
 use mathlib.Core.Path.{◌≡◌, refl, sym, ap, ◌∙◌, fun_ext}
-use mathlib.Core.Logic.{◌≢◌, ◌⊎◌, inl, inr}
+use mathlib.Core.Logic.{◌≢◌}
 use mathlib.Core.List.{List}
-use Prim.Native.Nat.{ℕ, zero, suc, ◌+◌, ◌*◌, ◌-◌, ◌≤◌, ◌<◌}
+use Prim.Native.Nat.{ℕ, suc, ◌+◌, ◌*◌, ◌≤◌, ◌<◌}
 use native.Mathlib.Omega.{arith}
 use native.Mathlib.Numerals.{add-one}
 use native.Mathlib.Decide.{ℕ_discrete}
@@ -12,7 +11,7 @@ use Rattle.rules.specs.Tables.{frame_width, header_width, frame_at, cell, put, c
 use Rattle.rules.proofs.Laws.Columns.{upd, upd_same, upd_at, upd_other, length-put, put-at, put_off}
 use Rattle.rules.proofs.Laws.Pools.{if_eq, if_ne}
 use Rattle.slots.specs.Asked.{Within, Cell}
-use Rattle.swaps.specs.Swaps.{Trail, here, Followable, exchanged_at, Exchanged, Brought, Beside, slot_in, Permuting, Permuted}
+use Rattle.swaps.specs.Swaps.{Trail, here, exchanged_at, Exchanged, Brought, Beside, slot_in, Permuting, Permuted}
 use Rattle.swaps.proofs.Swaps.{Sorting, Swapped, sorting_next, trail_one, trail-end}
 
 -- ---- all but the class entries stay
@@ -31,31 +30,19 @@ class-put e i j w = put-at frame_width e i frame_at.class j (omega arith) w.some
 -- ---- the loop of `exchange_rows`, at field `f`
 pub record Exchanging (w : ℕ) (t₀ : List ℕ) (i j : ℕ) (t : List ℕ) (f : ℕ) : Type 0 where
   pub long : length t ≡ length t₀
-  pub high : f ≤ w
-  pub one : Within w t₀ i
-  pub two : Within w t₀ j
   pub done : (g : ℕ) → g < f → cell w t g ≡ exchanged_at (cell w t₀ g) i j
   pub left : (g : ℕ) → f ≤ g → g < w → cell w t g ≡ cell w t₀ g
 
-pub exchanging_start : (w : ℕ) (t : List ℕ) (i j : ℕ) → Within w t i → Within w t j → Exchanging w t i j t 0
-exchanging_start w t i j a b = record { long = refl; high = omega arith; one = a; two = b; done = λ g h. absurd (omega arith); left = λ g h l. refl }
-
-module _ (w : ℕ) (t₀ : List ℕ) (i j : ℕ) (t : List ℕ) (f : ℕ) (R : Exchanging w t₀ i j t f) (l : f < w) where
+module _ (w : ℕ) (t₀ : List ℕ) (i j : ℕ) (t : List ℕ) (f : ℕ) (one : Within w t₀ i) (two : Within w t₀ j) (R : Exchanging w t₀ i j t f) (l : f < w) where
   pub exchanging_one : Cell w t f i
-  exchanging_one = record { some = R.one.some; inside = rw R.long R.one.inside; field = l }
+  exchanging_one = record { some = one.some; inside = rw R.long one.inside; field = l }
 
   pub exchanging_two : Cell w t f j
-  exchanging_two = record { some = R.two.some; inside = rw R.long R.two.inside; field = l }
-
-  pub exchanging_put : (b : ℕ) (t₁ : List ℕ) → t₁ ≡ put w t i f b → Cell w t₁ f j
-  exchanging_put b t₁ p = record { some = R.two.some; inside = rw (p, length-put) exchanging_two.inside; field = l }
+  exchanging_two = record { some = two.some; inside = rw R.long two.inside; field = l }
 
   pub exchanging_next : (a b : ℕ) (t₁ t₂ : List ℕ) → a ≡ cell w t f i → b ≡ cell w t f j → t₁ ≡ put w t i f b → t₂ ≡ put w t₁ j f a → Exchanging w t₀ i j t₂ (f + 1)
   exchanging_next a b t₁ t₂ ea eb p q = rw (q, p, ea, eb, add-one) (record {
     long = length-put w (put w t i f (cell w t f j)) j f (cell w t f i) ∙ length-put w t i f (cell w t f j) ∙ R.long;
-    high = l;
-    one = R.one;
-    two = R.two;
     done = λ g h. done' g h (ℕ_discrete g f);
     left = λ g h k. off g k (omega arith) ∙ R.left g (omega arith) k;
   })
@@ -65,15 +52,12 @@ module _ (w : ℕ) (t₀ : List ℕ) (i j : ℕ) (t : List ℕ) (f : ℕ) (R : E
 
       at_f : cell w (put w (put w t i f (cell w t f j)) j f (cell w t f i)) f ≡ exchanged_at (cell w t f) i j
       at_f =
-          put-at w (put w t i f (cell w t f j)) j f (cell w t f i) l R.two.some (rw length-put exchanging_two.inside)
-          ∙ ap (λ (c : ℕ → ℕ). upd c j (cell w t f i)) (put-at w t i f (cell w t f j) l R.one.some exchanging_one.inside)
+          put-at w (put w t i f (cell w t f j)) j f (cell w t f i) l two.some (rw length-put exchanging_two.inside)
+          ∙ ap (λ (c : ℕ → ℕ). upd c j (cell w t f i)) (put-at w t i f (cell w t f j) l one.some exchanging_one.inside)
 
       done' : (g : ℕ) → g < suc f → Dec (g ≡ f) → cell w (put w (put w t i f (cell w t f j)) j f (cell w t f i)) g ≡ exchanged_at (cell w t₀ g) i j
       done' g h (yes e) = rw e (at_f ∙ ap (λ (c : ℕ → ℕ). exchanged_at c i j) (R.left f (omega arith) l))
       done' g h (no e) = off g (omega arith) e ∙ R.done g (omega arith)
-
-pub exchanging_done : (w : ℕ) (t₀ : List ℕ) (i j : ℕ) (t : List ℕ) (f : ℕ) → Exchanging w t₀ i j t f → w ≤ f → Exchanged w t₀ i j t
-exchanging_done w t₀ i j t f R h = record { long = R.long; columns = λ g l. R.done g (omega arith) }
 
 -- a slot with itself
 pub exchanged_same : (w : ℕ) (t : List ℕ) (i j : ℕ) → j ≡ i → Exchanged w t i j t
@@ -110,11 +94,8 @@ pub record Sorts (m : ℕ) (e₀ s₀ e s : List ℕ) (i : ℕ) : Type 0 where
   pub sorting : Sorting m extent (λ k. slot_in header_width s₀ (class_of e₀ k)) (class_of e) (slot_in header_width s) i
   pub beside : Beside e₀ e
   pub long : length s ≡ length s₀
-  pub many : m * frame_width ≤ length e
   pub wide : extent * header_width ≤ length s
   pub enough : m ≤ extent
-  pub low : 1 ≤ i
-  pub high : i ≤ suc m
   pub past : (t : ℕ) → i ≤ t → class_of e t ≡ class_of e₀ t
 
 pub sorts_start : (m : ℕ) (e s : List ℕ) → Permuting m e s → Sorts m e s e s 1
@@ -130,32 +111,25 @@ sorts_start m e s P = record {
   };
   beside = beside-refl e;
   long = refl;
-  many = P.many;
   wide = P.wide;
   enough = P.enough;
-  low = omega arith;
-  high = omega arith;
   past = λ t h. refl;
 }
 
-module _ (m : ℕ) (e₀ s₀ e s : List ℕ) (i : ℕ) (R : Sorts m e₀ s₀ e s i) (l : i ≤ m) where
+module _ (m : ℕ) (e₀ s₀ e s : List ℕ) (i : ℕ) (P : Permuting m e₀ s₀) (R : Sorts m e₀ s₀ e s i) (low : 1 ≤ i) (l : i ≤ m) where
   pub sorts_entry : Within frame_width e i
-  sorts_entry = record { some = R.low; inside = omega (arith, R.many) }
-
-  -- what following rests on
-  pub sorts_follow : Followable e i (class_of e i)
-  sorts_follow = record { goal = R.sorting.spot i; trail = R.sorting.trail i (omega arith) l; within = sorts_entry }
+  sorts_entry = record { some = low; inside = rw R.beside.long (omega (arith, P.many)) }
 
   spot_is : (j : ℕ) → Trail (class_of e) i (class_of e i) j → j ≡ R.sorting.spot i
   spot_is j t = trail_one t (R.sorting.trail i (omega arith) l)
 
   pub sorts_one : Within header_width s i
-  sorts_one = record { some = R.low; inside = omega (arith, R.enough, R.wide) }
+  sorts_one = record { some = low; inside = omega (arith, R.enough, R.wide) }
 
   pub sorts_two : (j : ℕ) → Trail (class_of e) i (class_of e i) j → Within header_width s j
   sorts_two j t =
       let h : j ≤ R.extent = rw (spot_is j t) (R.sorting.inside i (omega arith) l) in
-      record { some = omega (arith, R.low, trail-end t); inside = omega (arith, R.wide) }
+      record { some = omega (arith, low, trail-end t); inside = omega (arith, R.wide) }
 
   -- the class entries after it
   data Entries (e' : List ℕ) (j : ℕ) : Type 0 where
@@ -195,20 +169,15 @@ module _ (m : ℕ) (e₀ s₀ e s : List ℕ) (i : ℕ) (R : Sorts m e₀ s₀ e
 
   pub sorts_next : (j : ℕ) (e' s' : List ℕ) → Trail (class_of e) i (class_of e i) j → Brought e s e' s' i j → Sorts m e₀ s₀ e' s' (i + 1)
   sorts_next j e' s' t' W =
-      let B = beside_trans R.beside (entries-beside j e' (entries j e' s' W)) in
-      let z : length e' ≡ length e = B.long ∙ sym R.beside.long in
       record {
         extent = R.extent;
-        sorting = rw add-one (sorting_next R.sorting R.low l (spot_is j t') (swapped j e' s' W));
-        beside = B;
+        sorting = rw add-one (sorting_next R.sorting low l (spot_is j t') (swapped j e' s' W));
+        beside = beside_trans R.beside (entries-beside j e' (entries j e' s' W));
         long = W.shared.long ∙ R.long;
-        many = rw z R.many;
         wide = rw W.shared.long R.wide;
         enough = R.enough;
-        low = omega arith;
-        high = omega arith;
         past = λ t h. entries-other j e' (entries j e' s' W) t (omega arith) ∙ R.past t (omega arith);
       }
 
-pub sorts_done : (m : ℕ) (e₀ s₀ e s : List ℕ) (i : ℕ) → Sorts m e₀ s₀ e s i → m < i → Permuted m e₀ s₀ e s
-sorts_done m e₀ s₀ e s i R h = record { beside = R.beside; long = R.long; brought = λ k a b. R.sorting.final k a (omega arith); past = λ t l. R.past t (omega (arith, R.high)) }
+pub sorts_done : (m : ℕ) (e₀ s₀ e s : List ℕ) (i : ℕ) → Sorts m e₀ s₀ e s i → i ≡ m + 1 → Permuted m e₀ s₀ e s
+sorts_done m e₀ s₀ e s i R h = record { beside = R.beside; long = R.long; brought = λ k a b. R.sorting.final k a (omega arith); past = λ t l. R.past t (omega arith) }

@@ -36,13 +36,11 @@ fn exchange_rows(t: &mut [u64], width: u64, i: u64, j: u64)
     requires { Within width t.old i × Within width t.old j }
     ensures { Exchanged width t.old i j t.new }
 {
-    let mut field: u64 = 0;
-    while field < width {
+    for field in 0..width {
         let a = get(t, width, field, i);
         let b = get(t, width, field, j);
         put(t, width, i, field, b);
         put(t, width, j, field, a);
-        field += 1;
     }
 }
 
@@ -63,11 +61,9 @@ pub fn sort(elems: &mut [u64], shared: &mut [u64], runs: u64)
     requires { Permuting runs elems.old shared.old }
     ensures { Permuted runs elems.old shared.old elems.new shared.new }
 {
-    let mut i: u64 = 1;
-    while i <= runs {
+    for i in 1..runs + 1 {
         let first = get(elems, FRAME, CLASS, i);
         let j = displaced(elems, i, first);
         bring(elems, shared, i, j);
-        i += 1;
     }
 }

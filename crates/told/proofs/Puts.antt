@@ -6,7 +6,9 @@ use native.Mathlib.Nat.{add-zero, add-suc, suc-add}
 use native.Mathlib.Numerals.{add-one}
 use native.Mathlib.Omega.{arith}
 use lib.ListN.{length, set, get_or, take, length-append}
-use lib.Seq.{sets, sets-eq, paste, paste-suc, take-length, take-suc}
+use lib.Seq.{sets, sets-eq, take-length, take-suc}
+use borrow.Rule.Slice.PartMut.{put_mid}
+use Rattle.std.proofs.lemmas.Slice.{put_mid-paste}
 use Rattle.rules.specs.declared.Key.{Key}
 use Rattle.rules.specs.Script.{space, bytes, decimal}
 use Rattle.told.specs.Put.{Put}
@@ -23,16 +25,10 @@ put_then {a} {b} {d} {at} {m} {n} {xs} {ys} p q =
       past = simp length-append (omega (arith, p.past, q.past));
     }
 
--- a copy of a text, byte by byte
-pub copy_more : (out₀ out text : List ℕ) (at i : ℕ) → at + length text ≤ length out₀ → i < length text
-    → out ≡ paste out₀ at text i → set out (at + i) (get_or text i 0) ≡ paste out₀ at text (i + 1)
-copy_more out₀ out text at i l h e = rw (e, add-one) (paste-suc out₀ at text i 0 (omega arith) h)
-
-pub copy_done : (out₀ out text : List ℕ) (at i : ℕ) → at + length text ≤ length out₀ → i ≤ length text → length text ≤ i
-    → out ≡ paste out₀ at text i → Put out₀ at text out (at + i)
-copy_done out₀ out text at i l h g e =
-    let n : i ≡ length text = omega arith in
-    record { written = e ∙ rw (n, take-length) (sym (sets-eq text out₀ at l)); past = rw n refl }
+-- a text copied over a part
+pub put_copied : (a text part : List ℕ) (at k : ℕ) → at + length text ≤ length a → part ≡ text → k ≡ length text → Put a at text (put_mid at k a part) (at + length text)
+put_copied a text part at k h e n =
+    record { written = put_mid-paste at k a part text (length text) e (sym n) refl ∙ rw take-length (sym (sets-eq text a at h)); past = refl }
 
 -- a last byte after what was written
 pub put_last : (a b : List ℕ) (at m : ℕ) (xs : List ℕ) (v : ℕ) → Put a at xs b m → Put a at (xs ++ v ∷ []) (set b m v) (m + 1)

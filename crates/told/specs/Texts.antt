@@ -1,12 +1,12 @@
 -- What Script prints of an answer, which goes by what is said and by the lent buffer alone.
-use Rattle.std.specs.Prelude.{ℕ, ◌*◌, ◌≤◌, ◌≡◌, List, [], ◌∷◌, map, length, get_or, if◌then◌else◌, ◌==◌}
+use Rattle.std.specs.Prelude.{ℕ, ◌*◌, ◌≤◌, ◌≡◌, List, ◌∷◌, map, length, get_or, if◌then◌else◌, ◌==◌}
 use Rattle.rules.specs.declared.Rest.{Rest}
 use Rattle.rules.specs.Notation.{flat}
 use Rattle.rules.specs.Refusals.{Said, Outcome}
 use Rattle.rules.specs.Slots.{empty}
 use Rattle.rules.specs.Runs.{rest_values}
 use Rattle.rules.specs.Drains.{key_width}
-use Rattle.rules.specs.Script.{space, decimal, cause_text, refused_text, shared_text}
+use Rattle.rules.specs.Script.{space, decimal, refused_text, shared_text}
 
 -- an outcome's text, with what is printed if it is accepted
 abbrev pub printed : (Outcome → List ℕ) → Outcome → List ℕ
@@ -15,10 +15,6 @@ printed print o = if o.said.number == 0 then print o else refused_text o.said.nu
 -- the same of what is said and lent, whatever the state
 abbrev pub text_of : (Outcome → List ℕ) → Said → (lent : List ℕ) → List ℕ
 text_of print said lent = printed print (record { said = said; state = empty 1 1 1; lent = lent })
-
--- Ticket 5: what is printed of a cause, 0 for none
-abbrev pub cause_or_none : ℕ → List ℕ
-cause_or_none cause = cause_text (if cause == 0 then [] else cause ∷ [])
 
 abbrev pub rest_text : Rest → List ℕ
 rest_text rest = shared_text (rest_values rest)

@@ -4,5 +4,5 @@
 pub mod answers;
 pub mod text;
 
-pub use answers::{Obeyed, put_refusal, put_ring, tell_inserted, tell_joined, tell_removed};
+pub use answers::{Answer, Obeyed, put_refusal, put_ring, tell};
 pub use text::put_text;

@@ -1,13 +1,12 @@
 -- The check of what the head remembers: the walk, and each of its answers.
 use Rattle.std.specs.Prelude.{◌==◌}
-use Prim.Native.Nat.{ℕ, zero, suc, ◌+◌, ◌-◌, ◌≤◌, ◌<◌}
+use Prim.Native.Nat.{ℕ, zero, suc, ◌+◌, ◌≤◌, ◌<◌}
 use mathlib.Core.Path.{◌≡◌, sym, ap, ◌∙◌}
 use mathlib.Core.Logic.{◌≢◌, inl, inr}
 use mathlib.Core.Bool.{Bool, true, false}
 use mathlib.Core.List.{List}
 use native.Mathlib.Omega.{arith}
 use lib.Dec.{eqb→eq, eqb_refl}
-use Rattle.rules.specs.declared.Memory.{Memory}
 use Rattle.rules.specs.Notation.{steps}
 use Rattle.rules.specs.Tables.{generation_of, class_of, next_of, bytes_of, count_of, mark_of, State, blank, elem_side, size_at}
 use Rattle.rules.specs.Sound.{bytes_along}
@@ -18,49 +17,17 @@ use Rattle.rules.proofs.Laws.Tests.{is_of}
 use Rattle.rules.proofs.Laws.Safe.{LiveSlot}
 use Rattle.rules.proofs.Laws.Traced.{Traced}
 use Rattle.rules.proofs.Laws.Described.{described}
-use Rattle.slots.specs.Asked.{Along}
 
--- ---- the steps that are left
+-- ---- the bytes of a walk: one more frame, and no more than the whole
 
-pub record Stepping (e : List ℕ) (n x left at : ℕ) : Type 0 where
-  pub along : Along e left at
-  pub rest : steps (next_of e) left at ≡ steps (next_of e) n x
+pub bytes_more : (e : List ℕ) (k x : ℕ) → bytes_along e (suc k) x ≡ bytes_along e k x + bytes_of e (steps (next_of e) k x)
+bytes_more e zero x = omega arith
+bytes_more e (suc k) x = omega (arith, bytes_more e k (next_of e x))
 
-module _ (e : List ℕ) (n x left at : ℕ) (s : Stepping e n x left at) where
-  pub stepping_next : 0 < left → Stepping e n x (left - 1) (next_of e at)
-  stepping_next h = go left h s.along s.rest
-    where
-      go : (k : ℕ) → 0 < k → Along e k at → steps (next_of e) k at ≡ steps (next_of e) n x → Stepping e n x (k - 1) (next_of e at)
-      go zero h a r = absurd (omega arith)
-      go (suc k) h a r = let q : suc k - 1 ≡ k = omega arith in rw q (record { along = record { each = λ j l. a.each (suc j) (omega arith) }; rest = r })
-
-  pub stepping_done : left ≤ 0 → at ≡ steps (next_of e) n x
-  stepping_done h = let z : left ≡ 0 = omega arith in rw z at s.rest
-
--- ---- the bytes that are left
-
-pub record Weighing (e : List ℕ) (n x left at bytes : ℕ) : Type 0 where
-  pub along : Along e left at
-  pub rest : bytes + bytes_along e left at ≡ bytes_along e n x
-
-module _ (e : List ℕ) (n x left at bytes : ℕ) (s : Weighing e n x left at bytes) where
-  pub weighing_next : 0 < left → Weighing e n x (left - 1) (next_of e at) (bytes + bytes_of e at)
-  weighing_next h = go left h s.along s.rest
-    where
-      go : (k : ℕ) → 0 < k → Along e k at → bytes + bytes_along e k at ≡ bytes_along e n x → Weighing e n x (k - 1) (next_of e at) (bytes + bytes_of e at)
-      go zero h a r = absurd (omega arith)
-      go (suc k) h a r = let q : suc k - 1 ≡ k = omega arith in rw q (record { along = record { each = λ j l. a.each (suc j) (omega arith) }; rest = omega (arith, r) })
-
-  -- the next size is part of the whole
-  pub weighing_fits : 0 < left → bytes + bytes_of e at ≤ bytes_along e n x
-  weighing_fits h = let w = weighing_next h in omega (arith, w.rest)
-
-  pub weighing_done : left ≤ 0 → bytes ≡ bytes_along e n x
-  weighing_done h = go left h s.rest
-    where
-      go : (k : ℕ) → k ≤ 0 → bytes + bytes_along e k at ≡ bytes_along e n x → bytes ≡ bytes_along e n x
-      go zero h r = omega (arith, r)
-      go (suc k) h r = absurd (omega arith)
+pub bytes_within : (e : List ℕ) (k n x : ℕ) → k ≤ n → bytes_along e k x ≤ bytes_along e n x
+bytes_within e zero n x h = omega arith
+bytes_within e (suc k) zero x h = absurd (omega arith)
+bytes_within e (suc k) (suc n) x h = omega (arith, bytes_within e k n (next_of e x) (omega arith))
 
 -- ---- the tests
 
@@ -104,28 +71,11 @@ module _ (st : State) where
 -- ---- the whole
 
 module _ (st : State) (R : Ready st) where
-  -- nothing kept: all are zeros, of which the last number tells
-  module _ (e : st.head.undo.kept ≡ 0) where
-    zeros : Remembers st → st.head.undo ≡ blank
-    zeros (inl q) = q
-    zeros (inr d) = absurd (not_none st e ((described st R).0 d))
-
-    pub not-gone : st.head.undo.gone ≢ 0 → Remembers st → ⊥
-    not-gone n r = n (ap (λ (m : Memory). m.gone) (zeros r))
-
-    pub not-moved : st.head.undo.moved ≢ 0 → Remembers st → ⊥
-    not-moved n r = n (ap (λ (m : Memory). m.moved) (zeros r))
-
-    pub value_tells : st.head.undo.gone ≡ 0 → st.head.undo.moved ≡ 0 → Is (Remembers st) (st.head.undo.value == 0)
-    value_tells f g = is_of (st.head.undo.value == 0)
-        (λ t. let v = eqb→eq st.head.undo.value 0 t in inl (λ i. record { kept = e i; gone = f i; moved = g i; value = v i }))
-        (λ r. rw (ap (λ (m : Memory). m.value) (zeros r)) (eqb_refl 0))
-
-  -- something kept: the walk tells
-  pub walk_tells : st.head.undo.kept ≢ 0 → (b : Bool) → Is (Traced st) b → Is (Remembers st) b
+  -- where they are no zeros, the walk tells
+  pub walk_tells : st.head.undo ≢ blank → (b : Bool) → Is (Traced st) b → Is (Remembers st) b
   walk_tells n true t = inr ((described st R).1 t)
   walk_tells n false q = go
     where
       go : Remembers st → ⊥
-      go (inl e) = n (ap (λ (m : Memory). m.kept) e)
+      go (inl e) = n e
       go (inr d) = q ((described st R).0 d)

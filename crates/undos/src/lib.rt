@@ -22,15 +22,11 @@ fn weigh(e: &[u64], n: u64, x: u64) -> u64
     requires { Along e.now n x × (bytes_along e.now n x < total_bound) }
     ensures { result ≡ bytes_along e.now n x }
 {
-    let mut left = n;
     let mut at = x;
     let mut bytes = 0;
-    while 0 < left {
-        let size = slots::get(e, FRAME, SIZE, at);
-        let next = slots::get(e, FRAME, NEXT, at);
-        bytes = bytes + size;
-        at = next;
-        left = left - 1;
+    for _ in 0..n {
+        bytes += slots::get(e, FRAME, SIZE, at);
+        at = slots::get(e, FRAME, NEXT, at);
     }
     bytes
 }
@@ -72,12 +68,9 @@ fn ahead(e: &[u64], n: u64, x: u64) -> u64
     requires { Along e.now n x }
     ensures { result ≡ steps (next_of e.now) n x }
 {
-    let mut left = n;
     let mut at = x;
-    while 0 < left {
-        let next = slots::get(e, FRAME, NEXT, at);
-        at = next;
-        left = left - 1;
+    for _ in 0..n {
+        at = slots::get(e, FRAME, NEXT, at);
     }
     at
 }
@@ -90,36 +83,19 @@ fn traces(head: Head, elems: &[u64], shared: &[u64]) -> bool
     let memory = head.undo;
     let x = memory.kept;
     let n = memory.moved;
-    if x == 0 {
+    if x == 0 || head.elems.extent < x || n == 0 || head.shared.root == 0 {
         return false;
     }
-    if head.elems.extent < x {
-        return false;
-    }
-    let generation = slots::get(elems, FRAME, GENERATION, x);
-    if generation == 0 {
-        return false;
-    }
-    if n == 0 {
-        return false;
-    }
-    if head.shared.root == 0 {
+    if slots::get(elems, FRAME, GENERATION, x) == 0 {
         return false;
     }
     let class = slots::get(elems, FRAME, CLASS, x);
     let mark = slots::get(shared, HEADER, MARK, class);
-    if mark != 0 {
-        return false;
-    }
     let size = slots::get(shared, HEADER, COUNT, class);
-    if size < n {
+    if mark != 0 || size < n || size - n < n {
         return false;
     }
-    if size - n < n {
-        return false;
-    }
-    let at = ahead(elems, n, x);
-    at == memory.gone
+    ahead(elems, n, x) == memory.gone
 }
 
 // The check of what the head remembers: zeros, or a walk finds it.
@@ -128,13 +104,6 @@ pub fn remembers(head: Head, elems: &[u64], shared: &[u64]) -> bool
     ensures { Is (Remembers (state_of head elems.now shared.now)) result }
 {
     let memory = head.undo;
-    if memory.kept == 0 {
-        if memory.gone == 0 {
-            if memory.moved == 0 {
-                return memory.value == 0;
-            }
-        }
-        return false;
-    }
-    traces(head, elems, shared)
+    let blank = memory.kept == 0 && memory.gone == 0 && memory.moved == 0 && memory.value == 0;
+    blank || traces(head, elems, shared)
 }

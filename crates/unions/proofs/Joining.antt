@@ -10,14 +10,14 @@ use lib.ListN.{length}
 use borrow.Author.Tests.{eq-eqb, ne_eqb}
 use Rattle.rules.specs.declared.Head.{Head}
 use Rattle.rules.specs.declared.Key.{Key}
-use Rattle.rules.specs.declared.Joined.TheVariants.{Into}
+use Rattle.std.specs.Prelude.{Ok}
 use Rattle.rules.specs.declared.Refusal.TheVariants.{SameClass, Sealed}
 use Rattle.rules.specs.Notation.{◌<?◌}
 use Rattle.rules.specs.Tables.{class_of, value_of, total_of, next_of, State, state_of, size_at, is_sealed, remembering, with_undo}
 use Rattle.rules.specs.Refusals.{Outcome, outcome, refuse, answer}
 use Rattle.rules.specs.Slots.{free_shared}
 use Rattle.rules.specs.Runs.{counted, rewritten, exchanged, joined, remembered, keeping}
-use Rattle.rules.specs.Answers.{after_joined}
+use Rattle.rules.specs.Answers.{joined_values, after}
 use Rattle.slots.specs.Asked.{Next}
 use Rattle.slots.proofs.Rewrites.{rewritten-next, length-rewritten}
 use Rattle.unions.specs.declared.Roles.{Roles}
@@ -46,7 +46,7 @@ joined_by st x y c next e s s' f p q r = f ∙ rw (p, q, r)
 
 pub keeping-by : (st : State) (x y : ℕ) (kept : Key) (next : Head) (e s : List ℕ) (was moved : ℕ)
     → was ≡ value_of st.shared (class_of st.elems y) → moved ≡ size_at st y → state_of next e s ≡ joined st x y
-    → after_joined (record { head = remembering next (record { kept = x; gone = y; moved = moved; value = was }); answer = Into was kept moved }) e s [] ≡ outcome st [] (keeping st x y kept)
+    → after joined_values st.head (Ok (record { head = remembering next (record { kept = x; gone = y; moved = moved; value = was }); answer = record { was = was; kept = kept; moved = moved }; over = false })) e s [] ≡ outcome st [] (keeping st x y kept)
 unfolding keeping
 keeping-by st x y kept next e s was moved p q f =
     rw (p, q) (ap (λ (t : State). outcome st [] (answer (value_of st.shared (class_of st.elems y) ∷ kept.slot ∷ kept.generation ∷ size_at st y ∷ []) (with_undo t (remembered st x y)))) f)

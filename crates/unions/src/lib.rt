@@ -7,13 +7,10 @@ ghost use Rattle.rules.specs.Tables.{state_of};
 ghost use Rattle.rules.specs.Refusals.{outcome};
 ghost use Rattle.rules.specs.Runs.{keeping};
 ghost use Rattle.rules.specs.Calls.{Ready, step, union};
-ghost use Rattle.rules.specs.Answers.{after_joined};
+ghost use Rattle.rules.specs.Answers.{joined_values, after};
 ghost use Rattle.unions.specs.Union.{BothLive, union_at};
 
-use rules::{
-    CLASS, COUNT, FRAME, Found, HEADER, Head, HeadJoined, Joined, Key, Memory, Refusal, TOTAL,
-    VALUE,
-};
+use rules::{CLASS, COUNT, FRAME, HEADER, Head, Joined, Key, Memory, Refusal, Step, TOTAL, VALUE};
 
 // Which slot's class is kept, which one's goes, and the key of the class kept.
 #[derive(Clone, Copy)]
@@ -42,9 +39,16 @@ fn assign(smaller: bool, x: u64, y: u64, j: Key, k: Key) -> Roles
 }
 
 // The class of `x` is kept, and that of `y` goes: its entries are rewritten before the links are exchanged.
-fn join(head: Head, elems: &mut [u64], shared: &mut [u64], x: u64, y: u64, kept: Key) -> HeadJoined
+fn join(
+    head: Head,
+    elems: &mut [u64],
+    shared: &mut [u64],
+    x: u64,
+    y: u64,
+    kept: Key,
+) -> Step<Joined>
     requires { BothLive (state_of head elems.old shared.old) x y }
-    ensures { after_joined result elems.new shared.new [] ≡ outcome (state_of head elems.old shared.old) [] (keeping (state_of head elems.old shared.old) x y kept) }
+    ensures { after joined_values head (Ok result) elems.new shared.new [] ≡ outcome (state_of head elems.old shared.old) [] (keeping (state_of head elems.old shared.old) x y kept) }
 {
     let keeps = slots::get(elems, FRAME, CLASS, x);
     let goes = slots::get(elems, FRAME, CLASS, y);
@@ -64,10 +68,7 @@ fn join(head: Head, elems: &mut [u64], shared: &mut [u64], x: u64, y: u64, kept:
     };
     let mut next = slots::free_header(head, shared, goes);
     next.undo = memory;
-    HeadJoined {
-        head: next,
-        answer: Joined::Into { was, kept, moved },
-    }
+    Step::plain(next, Joined { was, kept, moved })
 }
 
 // Union of two live slots: the arguments are chosen, then joined by one call.
@@ -79,59 +80,39 @@ fn union_at(
     y: u64,
     j: Key,
     k: Key,
-) -> HeadJoined
+) -> Result<Step<Joined>, Refusal>
     requires { BothLive (state_of head elems.old shared.old) x y }
-    ensures { after_joined result elems.new shared.new [] ≡ outcome (state_of head elems.old shared.old) [] (union_at (state_of head elems.old shared.old) x y j k) }
+    ensures { after joined_values head result elems.new shared.new [] ≡ outcome (state_of head elems.old shared.old) [] (union_at (state_of head elems.old shared.old) x y j k) }
 {
     let first = slots::get(elems, FRAME, CLASS, x);
     let second = slots::get(elems, FRAME, CLASS, y);
     if first == second {
-        return HeadJoined {
-            head,
-            answer: Joined::Refused(Refusal::SameClass),
-        };
+        return Err(Refusal::SameClass);
     }
     if slots::is_sealed(head, elems, shared, x) {
-        return HeadJoined {
-            head,
-            answer: Joined::Refused(Refusal::Sealed),
-        };
+        return Err(Refusal::Sealed);
     }
     if slots::is_sealed(head, elems, shared, y) {
-        return HeadJoined {
-            head,
-            answer: Joined::Refused(Refusal::Sealed),
-        };
+        return Err(Refusal::Sealed);
     }
     let first_size = slots::get(shared, HEADER, COUNT, first);
     let second_size = slots::get(shared, HEADER, COUNT, second);
     let role = assign(first_size < second_size, x, y, j, k);
-    let kept = role.kept;
-    join(head, elems, shared, role.keeps, role.goes, kept)
+    Ok(join(head, elems, shared, role.keeps, role.goes, role.kept))
 }
 
 // Rules 6, union.
-pub fn union(head: Head, elems: &mut [u64], shared: &mut [u64], j: Key, k: Key) -> HeadJoined
+pub fn union(
+    head: Head,
+    elems: &mut [u64],
+    shared: &mut [u64],
+    j: Key,
+    k: Key,
+) -> Result<Step<Joined>, Refusal>
     requires { Ready (state_of head elems.old shared.old) }
-    ensures { after_joined result elems.new shared.new [] ≡ step (state_of head elems.old shared.old) [] (union j k) }
+    ensures { after joined_values head result elems.new shared.new [] ≡ step (state_of head elems.old shared.old) [] (union j k) }
 {
-    let x = match slots::find(head, elems, j) {
-        Found::Live(x) => x,
-        Found::Dead(cause) => {
-            return HeadJoined {
-                head,
-                answer: Joined::Refused(Refusal::Dead(cause)),
-            };
-        }
-    };
-    let y = match slots::find(head, elems, k) {
-        Found::Live(y) => y,
-        Found::Dead(cause) => {
-            return HeadJoined {
-                head,
-                answer: Joined::Refused(Refusal::Dead(cause)),
-            };
-        }
-    };
+    let x = slots::find(head, elems, j)?;
+    let y = slots::find(head, elems, k)?;
     union_at(head, elems, shared, x, y, j, k)
 }

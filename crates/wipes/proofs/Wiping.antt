@@ -1,10 +1,12 @@
--- Fresh: the lengths of tables that fit, and the call's ways.
+-- A table wiped whole; of fresh the lengths of tables that fit, and the call's ways.
 use Prim.Native.Nat.{ℕ, ◌*◌, ◌≤◌}
+use native.Mathlib.Nat.{mul-le-mul_right}
 use native.Mathlib.Omega.{arith}
-use mathlib.Core.Path.{◌≡◌}
+use mathlib.Core.Path.{◌≡◌, ap, ◌∙◌}
 use mathlib.Core.Bool.{true, false}
-use mathlib.Core.List.{List, []}
-use lib.ListN.{length}
+use mathlib.Core.List.{List, [], ◌++◌}
+use lib.ListN.{length, take, drop, replicate}
+use Rattle.std.proofs.Common.{length-take-le}
 use Rattle.rules.specs.declared.Head.{Head}
 use Rattle.rules.specs.declared.Refusal.TheVariants.{Shape}
 use Rattle.rules.specs.Tables.{blank, frame_width, header_width, State, state_of}
@@ -13,7 +15,7 @@ use Rattle.rules.specs.Refusals.{Outcome, outcome, refuse, answer}
 use Rattle.rules.specs.Slots.{empty_pool, empty, fresh}
 use Rattle.rules.specs.Calls.{fresh_step}
 use Rattle.rules.proofs.Laws.Soundness.{shaped_of}
-use Rattle.rules.proofs.Laws.Past.{zeros-end}
+use Rattle.rules.proofs.Laws.Past.{wiped_whole, zeros-end}
 use Rattle.wipes.specs.Wiped.{ZeroPast}
 
 -- tables that fit are as long as their capacities say, and past these there is nothing
@@ -27,6 +29,12 @@ fit_past elems shared frames headers f =
       record { long = s.elems.long; within = omega arith; zeros = zeros-end elems (frames * frame_width) e },
       record { long = s.shared.long; within = omega arith; zeros = zeros-end shared (headers * header_width) g },
     )
+
+-- a table whose used slots are filled with 0 is all zero
+pub wiped : (w : ℕ) (t : List ℕ) (capacity used : ℕ) → ZeroPast capacity w used t → (z : List ℕ) → z ≡ replicate (length (take (used * w) t)) 0 → z ++ drop (used * w) t ≡ replicate (capacity * w) 0
+wiped w t capacity used p z e =
+    let n : length (take (used * w) t) ≡ used * w = length-take-le (used * w) t (rw p.long (mul-le-mul_right w p.within)) in
+    ap (λ (y : List ℕ). y ++ drop (used * w) t) (rw n at e) ∙ wiped_whole w t capacity used p.long p.within p.zeros
 
 -- fresh, by its two ways
 module _ (st : State) (frames headers : ℕ) (o : Outcome) where

@@ -4,27 +4,14 @@
 
 ghost use Rattle.std.specs.Prelude.{◌≡◌, List, [], ◌++◌, ℕ, ◌+◌, ◌*◌, ◌≤◌, ◌<◌, length, replicate, drop};
 ghost use Rattle.rules.specs.Tables.{frame_width, header_width, state_of};
-ghost use Rattle.rules.specs.Slots.{empty_pool, empty};
+ghost use Rattle.rules.specs.Slots.{empty};
 ghost use Rattle.rules.specs.Calls as calls;
 ghost use Rattle.rules.specs.Calls.{Ready, step, fresh_step};
-ghost use Rattle.rules.specs.Answers.{after_done};
+ghost use Rattle.rules.specs.Answers.{no_values, after};
 ghost use Rattle.wipes.specs.Wiped.{ZeroPast};
 
-use rules::{BLANK, Done, FRAME, HEADER, Head, HeadDone, Pool, Refusal};
+use rules::{BLANK, FRAME, HEADER, Head, Pool, Refusal, Step};
 use shape::both_fit;
-
-// Rules 2 and 12: the first numbers of a table become 0.
-fn zero(t: &mut [u64], many: u64)
-    requires { many ≤ length t.old }
-    ensures { t.new ≡ replicate many 0 ++ drop many t.old }
-{
-    let end = many as usize;
-    let mut i = 0;
-    while i < end {
-        t[i] = 0;
-        i += 1;
-    }
-}
 
 // Rules 2 and 12: zero tables of so many slots, and the head over them; past the first `used` and `classed` slots they are zero already.
 pub fn blank(
@@ -39,24 +26,13 @@ pub fn blank(
     requires { ZeroPast frames frame_width used elems.old × ZeroPast headers header_width classed shared.old }
     ensures { state_of result elems.new shared.new ≡ empty frames headers generation }
 {
-    zero(elems, used * FRAME);
-    zero(shared, classed * HEADER);
+    elems[..(used * FRAME) as usize].fill(0);
+    shared[..(classed * HEADER) as usize].fill(0);
     Head {
-        elems: empty_pool(frames),
-        shared: empty_pool(headers),
+        elems: Pool::empty(frames),
+        shared: Pool::empty(headers),
         generation,
         undo: BLANK,
-    }
-}
-
-fn empty_pool(capacity: u64) -> Pool
-    ensures { result ≡ empty_pool capacity }
-{
-    Pool {
-        capacity,
-        extent: 0,
-        root: 0,
-        live: 0,
     }
 }
 
@@ -67,43 +43,33 @@ pub fn fresh(
     headers: u64,
     elems: &mut [u64],
     shared: &mut [u64],
-) -> HeadDone
-    ensures { after_done result elems.new shared.new [] ≡ fresh_step (state_of head elems.old shared.old) frames headers }
+) -> Result<Step<()>, Refusal>
+    ensures { after no_values head result elems.new shared.new [] ≡ fresh_step (state_of head elems.old shared.old) frames headers }
 {
     if !both_fit(elems, shared, frames, headers) {
-        return HeadDone {
-            head,
-            answer: Done::Refused(Refusal::Shape),
-            over: false,
-        };
+        return Err(Refusal::Shape);
     }
     let next = blank(frames, headers, 1, elems, frames, shared, headers);
-    HeadDone {
-        head: next,
-        answer: Done::Done,
-        over: false,
-    }
+    Ok(Step::plain(next, ()))
 }
 
 // Rules 12, clear: it stops at the extents, past which a sound table is zero (Sound 6).
-pub fn clear(head: Head, elems: &mut [u64], shared: &mut [u64]) -> HeadDone
+pub fn clear(head: Head, elems: &mut [u64], shared: &mut [u64]) -> Result<Step<()>, Refusal>
     requires { Ready (state_of head elems.old shared.old) }
-    ensures { after_done result elems.new shared.new [] ≡ step (state_of head elems.old shared.old) [] calls.clear }
+    ensures { after no_values head result elems.new shared.new [] ≡ step (state_of head elems.old shared.old) [] calls.clear }
 {
     let raised = head.raise();
-    let generation = raised.head.generation;
     let next = blank(
         head.elems.capacity,
         head.shared.capacity,
-        generation,
+        raised.head.generation,
         elems,
         head.elems.extent,
         shared,
         head.shared.extent,
     );
-    HeadDone {
+    Ok(Step {
         head: next,
-        answer: Done::Done,
-        over: raised.over,
-    }
+        ..raised
+    })
 }

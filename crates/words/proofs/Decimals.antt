@@ -4,7 +4,7 @@ use Prim.Native.Nat.{ℕ, zero, suc, ◌+◌, ◌*◌, ◌-◌, ◌/◌, ◌%◌
 use mathlib.Core.Path.{◌≡◌, refl, sym, ap, ◌∙◌}
 use mathlib.Core.Bool.{Bool, true, false, ◌&&◌}
 use mathlib.Core.List.{List, [], ◌∷◌, ◌++◌}
-use mathlib.Core.Option.{Option, some, none}
+use mathlib.Core.Option.{some, none}
 use native.Mathlib.Nat.{le_refl, div-lt_iff_lt-mul, pow-suc}
 use native.Mathlib.Decide.{dec_lt}
 use native.Mathlib.Omega.{arith}
@@ -12,7 +12,7 @@ use borrow.Author.Tests.{le-leb, lt-leb, eq-eqb, eqb-true}
 use lib.Arith.{digits_div, digits_mod}
 use lib.Dec.{lit<}
 use lib.ListN.{length, get_or, length-append, get_or-append}
-use Rattle.rules.specs.Notation.{◌≤?◌, ◌<?◌, every}
+use Rattle.rules.specs.Notation.{◌≤?◌, every}
 use Rattle.rules.specs.Script.{digits, decimal, same_bytes, word_value, number}
 
 -- ---- the decimal of a number
@@ -191,17 +191,3 @@ number_zero_first most b ys h = go (dec_lt most (word_value 0 (48 ∷ b ∷ ys))
     go : Dec (most < word_value 0 (48 ∷ b ∷ ys)) → number most (48 ∷ b ∷ ys) ≡ none
     go (yes l) = number_large most (48 ∷ b ∷ ys) l
     go (no l) = number-other most (48 ∷ b ∷ ys) (first (word_value 0 (48 ∷ b ∷ ys)) (omega arith))
-
--- a number that was read is at most its bound
-abbrev pub AtMost : ℕ → Option ℕ → Type 0
-AtMost most (some n) = n ≤ most
-AtMost most none = Unit {0}
-
-pub number-most : (most : ℕ) (word : List ℕ) → AtMost most (number most word)
-unfolding number
-number-most most word = let n = word_value 0 word in go n (same_bytes (decimal n) word) (dec_lt most n)
-  where
-    go : (n : ℕ) (same : Bool) → Dec (most < n) → AtMost most (if (n ≤? most) && same then some n else none)
-    go n same (yes l) = rw (lt-leb n most l) tt
-    go n true (no l) = rw (le-leb n most (omega arith)) (omega arith)
-    go n false (no l) = rw (le-leb n most (omega arith)) tt

@@ -1,88 +1,108 @@
--- Script: a number read digit by digit. At place `i` of the word the value so far is that of its bytes, and they are its decimal.
+-- Script: a number read digit by digit. After `i` bytes of the word the value is theirs, and they are its decimal.
+use Rattle.std.specs.Prelude.{Some, None}
 use Prim.Native.Nat.{ℕ, zero, suc, ◌+◌, ◌*◌, ◌-◌, ◌/◌, ◌^◌, ◌≤◌, ◌<◌}
 use mathlib.Core.Path.{◌≡◌, refl, sym, ap, ◌∙◌}
-use mathlib.Core.Logic.{◌⊎◌, inl, inr}
-use mathlib.Core.Bool.{Bool, true, false}
+use mathlib.Core.Bool.{false}
 use mathlib.Core.List.{List, [], ◌∷◌, ◌++◌}
-use mathlib.Core.Option.{Option, some, none}
+use mathlib.Core.Option.{some, none}
 use native.Mathlib.Decide.{dec_lt}
 use native.Mathlib.Numerals.{add-one}
 use native.Mathlib.Omega.{arith}
 use borrow.Author.Tests.{le-leb, lt-leb}
-use lib.ListN.{length, get_or}
-use lib.Seq.{slice, slice_empty}
+use lib.ListN.{length, get_or, take, drop, take-append-drop}
+use lib.Seq.{drop-cons, take-suc, take_all, length-take-le}
+use Rattle.std.specs.List.{slice_get}
+use Rattle.std.proofs.lemmas.List.{get_or-take}
+use Rattle.std.proofs.lemmas.Option.{none-some}
 use Rattle.rules.specs.Script.{decimal, word_value, number}
 use Rattle.words.specs.Words.{IsDigit}
 use Rattle.words.proofs.Decimals.{decimal_one, decimal_more, word_value-append, word_value-least, is_digit, number-empty, number_is, number_large, number_no_digit, number_zero_first}
-use Rattle.words.proofs.Pieces.{slice-split, slice-suc}
 
-no_digit : (b d : ℕ) → IsDigit b d → 9 < d → is_digit b ≡ false
-no_digit b d h l = go (dec_lt b 48) (dec_lt 57 b)
+no_digit : (b : ℕ) → IsDigit b None → is_digit b ≡ false
+no_digit b h = go (dec_lt b 48) (dec_lt 57 b)
   where
     go : Dec (b < 48) → Dec (57 < b) → is_digit b ≡ false
     go (yes g) k = rw (lt-leb 48 b g)
     go (no g) (yes k) = rw (le-leb 48 b (omega arith), lt-leb b 57 k)
-    go (no g) (no k) = absurd (h.other l (omega arith, omega arith))
+    go (no g) (no k) = absurd (h (omega arith, omega arith))
 
-positive : (from i v : ℕ) → (v ≡ 0 → i ≤ from) → from < i → 1 ≤ v
-positive from i zero z l = absurd (omega (arith, z refl))
-positive from i (suc v) z l = omega arith
+positive : (i v : ℕ) → (v ≡ 0 → i ≤ 0) → 0 < i → 1 ≤ v
+positive i zero z l = absurd (omega (arith, z refl))
+positive i (suc v) z l = omega arith
 
-module _ (line : List ℕ) (from end most : ℕ) where
-  pub reading_empty : from ≡ end → number most (slice from end line) ≡ none
-  reading_empty e = rw (e, slice_empty end line) (number-empty most)
+module _ (word : List ℕ) (most : ℕ) where
+  pub reading_empty : None ≡ slice_get word 0 → number most word ≡ none
+  reading_empty e = go word e
+    where
+      go : (w : List ℕ) → None ≡ slice_get w 0 → number most w ≡ none
+      go [] h = number-empty most
+      go (b ∷ w) h = absurd (none-some b h)
+
+  -- no leading zeros
+  pub reading_zero : most < 10 ^ 20 → get_or word 0 0 ≡ 48 → 1 < length word → number most word ≡ none
+  reading_zero m z l = go word z l
+    where
+      go : (w : List ℕ) → get_or w 0 0 ≡ 48 → 1 < length w → number most w ≡ none
+      go [] e h = absurd (omega arith)
+      go (b ∷ []) e h = absurd (omega arith)
+      go (b ∷ b' ∷ w) e h = rw e (number_zero_first most b' w m)
 
   pub record Reading (value i : ℕ) : Type 0 where
-    pub low : from ≤ i
-    pub high : i ≤ end
     pub small : value ≤ most
-    pub worth : word_value 0 (slice from i line) ≡ value
-    pub said : from < i → decimal value ≡ slice from i line
+    pub worth : word_value 0 (take i word) ≡ value
+    pub said : 0 < i → decimal value ≡ take i word
 
-  pub reading_start : from ≤ end → Reading 0 from
-  reading_start h = record { low = omega arith; high = h; small = omega arith; worth = rw slice_empty refl; said = λ l. absurd (omega arith) }
+  pub reading_start : Reading 0 0
+  reading_start = record { small = omega arith; worth = refl; said = λ l. absurd (omega arith) }
 
-  module _ (value i d : ℕ) (r : Reading value i) (within : end ≤ length line) (inside : i < end) (digit : IsDigit (get_or line i 0) d) where
-    whole : slice from end line ≡ slice from i line ++ get_or line i 0 ∷ slice (suc i) end line
-    whole = slice-split from i end line r.low inside within
+  module _ (value i : ℕ) (r : Reading value i) (inside : i < length word) where
+    whole : word ≡ take i word ++ get_or word i 0 ∷ drop (suc i) word
+    whole = sym (take-append-drop i word) ∙ ap (λ (xs : List ℕ). take i word ++ xs) (drop-cons word i 0 inside)
 
-    pub reading_no_digit : 9 < d → number most (slice from end line) ≡ none
-    reading_no_digit l = rw whole (number_no_digit most (slice from i line) (get_or line i 0) (slice (suc i) end line) (no_digit (get_or line i 0) d digit l))
+    pub reading_no_digit : IsDigit (get_or word i 0) None → number most word ≡ none
+    reading_no_digit h = rw whole (number_no_digit most (take i word) (get_or word i 0) (drop (suc i) word) (no_digit (get_or word i 0) h))
 
-    pub reading_zero : most < 10 ^ 20 → value ≡ 0 → from < i → number most (slice from end line) ≡ none
-    reading_zero m z l =
-        let first : slice from i line ≡ 48 ∷ [] = sym (r.said l) ∙ rw z (decimal_one 0 (omega arith)) in
-        rw (whole, first) (number_zero_first most (get_or line i 0) (slice (suc i) end line) m)
+    -- a value of 0 is that of a first zero, which is then the whole word
+    first : (get_or word 0 0 ≡ 48 → length word ≤ 1) → value ≡ 0 → i ≤ 0
+    first h z = go (dec_lt 0 i)
+      where
+        one : take i word ≡ 48 ∷ [] → 0 < i → get_or word 0 0 ≡ 48
+        one e l = sym (get_or-take i word 0 0 l) ∙ ap (λ (xs : List ℕ). get_or xs 0 0) e
 
-    pub reading_large : d ≤ 9 → 9 ≤ most → (most - d) / 10 < value → number most (slice from end line) ≡ none
-    reading_large h n l =
-        let e : word_value 0 (slice from end line) ≡ word_value (value * 10 + (get_or line i 0 - 48)) (slice (suc i) end line) =
-        rw whole (word_value-append 0 (slice from i line) (get_or line i 0 ∷ slice (suc i) end line) ∙ rw r.worth) in
-        number_large most (slice from end line)
-        (omega (arith, e, digit.digit h, word_value-least (value * 10 + (get_or line i 0 - 48)) (slice (suc i) end line)))
+        go : Dec (0 < i) → i ≤ 0
+        go (no l) = omega arith
+        go (yes l) =
+            let e : take i word ≡ 48 ∷ [] = sym (r.said l) ∙ rw z (decimal_one 0 (omega arith)) in
+            absurd (omega (arith, h (one e l), ap length e, length-take-le i word (omega arith)))
 
-    more : d ≤ 9 → value * 10 + d < 10 ^ 20 → (value ≡ 0 → i ≤ from) → Dec (from < i) → decimal (value * 10 + d) ≡ slice from i line ++ (48 + d) ∷ []
-    more h m z (yes l) =
-        decimal_more value d (positive from i value z l) h m ∙ ap (λ (ds : List ℕ). ds ++ (48 + d) ∷ []) (r.said l)
-    more h m z (no l) =
-        let e : i ≡ from = omega (arith, r.low) in
-        let v : value ≡ 0 = sym r.worth ∙ rw (e, slice_empty from line) in
-        let n : value * 10 + d ≡ d = omega arith in
-        rw (n, e, slice_empty from line) (decimal_one d (omega arith))
+    module _ (d : ℕ) (digit : IsDigit (get_or word i 0) (Some d)) where
+      pub reading_large : 9 ≤ most → (most - d) / 10 < value → number most word ≡ none
+      reading_large n l =
+          let e : word_value 0 word ≡ word_value (value * 10 + (get_or word i 0 - 48)) (drop (suc i) word) =
+          ap (word_value 0) whole ∙ word_value-append 0 (take i word) (get_or word i 0 ∷ drop (suc i) word)
+          ∙ ap (λ (v : ℕ). word_value v (get_or word i 0 ∷ drop (suc i) word)) r.worth in
+          number_large most word
+          (omega (arith, e, digit, word_value-least (value * 10 + (get_or word i 0 - 48)) (drop (suc i) word)))
 
-    pub reading_next : d ≤ 9 → most < 10 ^ 20 → (value ≡ 0 → i ≤ from) → value * 10 + d ≤ most → Reading (value * 10 + d) (i + 1)
-    reading_next h m z l =
-        let s : slice from (i + 1) line ≡ slice from i line ++ (48 + d) ∷ [] =
-        rw add-one (slice-suc from i line r.low (omega arith) ∙ rw (digit.digit h)) in
-        record {
-          low = omega (arith, r.low);
-          high = omega arith;
-          small = l;
-          worth = rw s (word_value-append 0 (slice from i line) ((48 + d) ∷ []) ∙ rw r.worth (omega arith));
-          said = λ g. rw s (more h (omega arith) z (dec_lt from i));
-        }
+      more : value * 10 + d < 10 ^ 20 → (value ≡ 0 → i ≤ 0) → Dec (0 < i) → decimal (value * 10 + d) ≡ take i word ++ (48 + d) ∷ []
+      more m z (yes l) =
+          decimal_more value d (positive i value z l) digit.0 m ∙ ap (λ (ds : List ℕ). ds ++ (48 + d) ∷ []) (r.said l)
+      more m z (no l) =
+          let e : i ≡ 0 = omega arith in
+          let v : value ≡ 0 = sym r.worth ∙ rw e refl in
+          let n : value * 10 + d ≡ d = omega arith in
+          rw (n, e) (decimal_one d (omega (arith, digit.0)))
 
-  pub reading_done : (value i : ℕ) → Reading value i → end ≤ i → from < end → number most (slice from end line) ≡ some value
+      pub reading_next : most < 10 ^ 20 → (get_or word 0 0 ≡ 48 → length word ≤ 1) → value * 10 + d ≤ most → Reading (value * 10 + d) (i + 1)
+      reading_next m h l =
+          let s : take (i + 1) word ≡ take i word ++ (48 + d) ∷ [] = rw add-one (take-suc word i 0 inside ∙ rw digit.1) in
+          record {
+            small = l;
+            worth = rw s (word_value-append 0 (take i word) ((48 + d) ∷ []) ∙ rw r.worth (omega arith));
+            said = λ g. rw s (more (omega arith) (first h) (dec_lt 0 i));
+          }
+
+  pub reading_done : (value i : ℕ) → Reading value i → length word ≤ i → 0 < length word → number most word ≡ some value
   reading_done value i r h l =
-      let e : i ≡ end = omega (arith, r.high) in
-      number_is most value (slice from end line) (rw e at r.worth) r.small (rw e at (r.said (omega arith)))
+      let e : take i word ≡ word = take_all i word h in
+      number_is most value word (rw e at r.worth) r.small (rw e at (r.said (omega arith)))

@@ -1,39 +1,29 @@
--- A line's words from a place on, and what a read number is to Script.
-use Rattle.std.specs.Prelude.{ℕ, ◌+◌, ◌≤◌, ◌<◌, ◌≡◌, List, [], ◌∷◌, ◌++◌, length, drop, if◌then◌else◌}
+-- A line's words that are still to be taken, and what a read number is to Script.
+use Rattle.std.specs.Prelude.{ℕ, ◌+◌, ◌≤◌, ◌≡◌, List, [], ◌∷◌, ◌++◌, Option as Optional, Some, None}
 use Rattle.std.proofs.Math.Option.{Option, some, none}
-use Rattle.std.proofs.Math.Seq.{slice}
-use Rattle.rules.specs.Notation.{◌≤?◌}
-use Rattle.rules.specs.Script.{space, pieces, numbers, both}
-use Rattle.words.specs.declared.words.Numeral.{Numeral}
-use Rattle.words.specs.declared.words.Numeral.TheVariants.{Is, Not}
-use Rattle.words.specs.declared.words.Taken.{Taken}
-use Rattle.words.specs.declared.words.Taken.TheVariants.{Number, Nothing}
+use Rattle.rules.specs.declared.Key.{Key}
+use Rattle.rules.specs.Script.{space, pieces, both}
+use Rattle.words.specs.declared.words.Words.{Words}
 
 -- bytes put in front of the first of some pieces
 abbrev pub onto : List ℕ → List (List ℕ) → List (List ℕ)
 onto xs [] = xs ∷ []
 onto xs (p ∷ ps) = (xs ++ p) ∷ ps
 
--- the words from place `at` on; past the end there is none
-unfoldable pub words_at : (line : List ℕ) → (at : ℕ) → List (List ℕ)
-words_at line at = if at ≤? length line then pieces space (drop at line) else []
+-- the words still to be taken: those of what is left of a line, if anything is
+abbrev pub left : Words → List (List ℕ)
+left w = elim w.rest [ Some line ↦ pieces space line.now | None ↦ [] ]
 
--- the word at `at` ends at `end`, and the next one begins past that
-pub record WordAt (line : List ℕ) (at end : ℕ) : Type 0 where
-  pub from : at ≤ end
-  pub within : end ≤ length line
-  pub words : words_at line at ≡ slice at end line ∷ words_at line (end + 1)
+-- a byte's digit, or none for any other byte
+abbrev pub IsDigit : ℕ → Optional ℕ → Type 0
+IsDigit b (Some d) = (d ≤ 9) × (b ≡ 48 + d)
+IsDigit b None = (48 ≤ b) × (b ≤ 57) → ⊥
 
--- a byte is the digit `d`, or no digit if `d` is over 9
-pub record IsDigit (b d : ℕ) : Type 0 where
-  pub digit : d ≤ 9 → b ≡ 48 + d
-  pub other : 9 < d → (48 ≤ b) × (b ≤ 57) → ⊥
+abbrev pub option : Optional ℕ → Option ℕ
+option (Some n) = some n
+option None = none
 
-abbrev pub option : Numeral → Option ℕ
-option (Is n) = some n
-option Not = none
-
--- the numbers of a line, one of which has been taken
-abbrev pub taken : (line : List ℕ) → (mosts : List ℕ) → Taken → Option (List ℕ)
-taken line mosts (Number value next) = both (some value) (numbers mosts (words_at line next))
-taken line mosts Nothing = none
+-- the numbers of a key, and those of the words after it
+abbrev pub key_before : Optional Key → Option (List ℕ) → Option (List ℕ)
+key_before (Some key) rest = both (some key.slot) (both (some key.generation) rest)
+key_before None rest = none

@@ -1,103 +1,109 @@
 // A line's words, which single spaces part, and the numbers among them.
-ghost use Rattle.std.specs.Prelude.{ℕ, ◌+◌, ◌≤◌, ◌≡◌, List, [], ◌∷◌, length};
-ghost use Rattle.std.proofs.Math.Option.{some};
-ghost use Rattle.std.proofs.Math.Seq.{slice};
-ghost use Rattle.rules.specs.Script.{number, numbers, both};
-ghost use Rattle.words.specs.Words.{words_at, WordAt, option, IsDigit, taken};
+ghost use Rattle.std.specs.Prelude.{ℕ, ◌+◌, ◌≤◌, ◌≡◌, List, [], ◌∷◌, position, ◌==◌, MatchOption, IfSome};
+ghost use Rattle.std.proofs.Math.Option.{some, none};
+ghost use Rattle.rules.specs.Script.{u32, space, pieces, number, numbers, both};
+ghost use Rattle.words.specs.Words.{left, option, key_before, IsDigit};
 
-// What a word is as a number.
-#[derive(Clone, Copy)]
-pub enum Numeral {
-    Is(u64),
-    Not,
-}
+use rules::Key;
 
-// What is read of a line at a place: a number, and the place of the next word; or no such number.
-#[derive(Clone, Copy)]
-pub enum Taken {
-    Number { value: u64, next: usize },
-    Nothing,
-}
+// The bounds of `i`, `g` and `z`, and of `t` and `s`.
+pub const U32: u64 = u32::MAX as u64;
 
-// Where the word at `from` ends.
-pub fn word_end(line: &[u8], from: usize) -> usize
-    requires { from ≤ length line.now }
-    ensures { WordAt line.now from result }
+pub const U64: u64 = u64::MAX;
+
+// The digit of a byte, if it is one.
+fn digit(byte: u8) -> Option<u64>
+    ensures { IsDigit byte result }
 {
-    let mut end = from;
-    while end < line.len() {
-        if line[end] == b' ' {
-            return end;
-        }
-        end += 1;
+    match byte {
+        b'0'..=b'9' => Some(u64::from(byte - b'0')),
+        _ => None,
     }
-    end
-}
-
-// The digit of a byte, or 10 and more for any other byte.
-fn digit(b: u8) -> u64
-    ensures { IsDigit b result }
-{
-    if b < 48 { 10 } else { (b - 48) as u64 }
 }
 
 // Script: decimal without leading zeros, at most `most`.
-pub fn number(line: &[u8], from: usize, end: usize, most: u64) -> Numeral
-    requires { (from ≤ end) × (end ≤ length line.now) × (9 ≤ most) }
-    ensures { number most (slice from end line.now) ≡ option result }
+pub fn number(word: &[u8], most: u64) -> Option<u64>
+    requires { 9 ≤ most }
+    ensures read { number most word.now ≡ option result }
+    ensures bound { IfSome result (λ n. n ≤ most) }
 {
-    if from == end {
-        return Numeral::Not;
+    let first = *word.first()?;
+    if first == b'0' && word.len() > 1 {
+        return None;
     }
     let mut value = 0;
-    let mut i = from;
-    while i < end {
-        let d = digit(line[i]);
-        if 9 < d {
-            return Numeral::Not;
+    for byte in word {
+        let digit = digit(*byte)?;
+        if (most - digit) / 10 < value {
+            return None;
         }
-        if value == 0 {
-            if from < i {
-                return Numeral::Not;
+        value = value * 10 + digit;
+    }
+    Some(value)
+}
+
+// Where a byte first stands, if it does.
+pub fn find(bytes: &[u8], sought: u8) -> Option<usize>
+    ensures { result ≡ position (λ byte. byte == sought) bytes.now }
+{
+    bytes.iter().position(|byte| *byte == sought)
+}
+
+// The words of a line that are still to be taken: none past its end.
+#[derive(Drop)]
+pub struct Words<'a> {
+    rest: Option<&'a [u8]>,
+}
+
+impl<'a> Words<'a> {
+    pub fn new(line: &'a [u8]) -> Words<'a>
+        ensures { left result ≡ pieces space line.now }
+    {
+        Words { rest: Some(line) }
+    }
+
+    // The next word, if there is one.
+    pub fn next(&mut self) -> Option<&'a [u8]>
+        ensures { MatchOption result (left self.old ≡ []) (λ word. left self.old ≡ word.now ∷ left self.new) }
+    {
+        let rest = self.rest?;
+        match find(rest, b' ') {
+            Some(end) => {
+                self.rest = Some(&rest[end + 1..]);
+                Some(&rest[..end])
+            }
+            None => {
+                self.rest = None;
+                Some(rest)
             }
         }
-        if (most - d) / 10 < value {
-            return Numeral::Not;
+    }
+
+    // The next word as a number, if there is one and it is a number of at most `most`.
+    pub fn number(&mut self, most: u64) -> Option<u64>
+        requires { 9 ≤ most }
+        ensures taken { (mosts : List ℕ) → numbers (most ∷ mosts) (left self.old) ≡ both (option result) (numbers mosts (left self.new)) }
+        ensures bound { IfSome result (λ n. n ≤ most) }
+    {
+        number(self.next()?, most)
+    }
+
+    // The next two words as a key.
+    pub fn key(&mut self) -> Option<Key>
+        ensures { (mosts : List ℕ) → numbers (u32 ∷ u32 ∷ mosts) (left self.old) ≡ key_before result (numbers mosts (left self.new)) }
+    {
+        let slot = self.number(U32)?;
+        let generation = self.number(U32)?;
+        Some(Key { slot, generation })
+    }
+
+    // Nothing, if no word is left.
+    pub fn end(&self) -> Option<()>
+        ensures { MatchOption result (numbers [] (left self.now) ≡ none) (λ done. numbers [] (left self.now) ≡ some []) }
+    {
+        match self.rest {
+            Some(_) => None,
+            None => Some(()),
         }
-        value = value * 10 + d;
-        i += 1;
     }
-    Numeral::Is(value)
-}
-
-// The number at `at`, if there is a word there and it is one.
-pub fn take_number(line: &[u8], at: usize, most: u64) -> Taken
-    requires { 9 ≤ most }
-    ensures { (mosts : List ℕ) → numbers (most ∷ mosts) (words_at line.now at) ≡ taken line.now mosts result }
-{
-    if line.len() < at {
-        return Taken::Nothing;
-    }
-    let end = word_end(line, at);
-    match number(line, at, end, most) {
-        Numeral::Is(value) => Taken::Number {
-            value,
-            next: end + 1,
-        },
-        Numeral::Not => Taken::Nothing,
-    }
-}
-
-// The number at `at`, if there is a word there, it is one and it is the line's last.
-pub fn last_number(line: &[u8], at: usize, most: u64) -> Numeral
-    requires { 9 ≤ most }
-    ensures { numbers (most ∷ []) (words_at line.now at) ≡ both (option result) (some []) }
-{
-    let Taken::Number { value, next } = take_number(line, at, most) else {
-        return Numeral::Not;
-    };
-    if next <= line.len() {
-        return Numeral::Not;
-    }
-    Numeral::Is(value)
 }

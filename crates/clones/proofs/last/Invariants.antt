@@ -1,8 +1,7 @@
-use Rattle.clones.proofs.Scanning.{Scanning}
+use Rattle.std.proofs.Common.{◌≡◌, ℕ}
+use Rattle.rules.specs.Copy.{last_to, last_live}
+use Rattle.clones.specs.Clones.{side_of}
 use Rattle.clones.proofs.last.Given as goal
 
 abbrev pub invariant-loop-slot : goal.invariant-loop-slot
-invariant-loop-slot l = Scanning l.initial.slot l.width l.t l.used l.slot
-
-abbrev pub decreases-loop-slot : goal.decreases-loop-slot
-decreases-loop-slot l = l.slot
+invariant-loop-slot l = (link : ℕ) → let t = side_of l.fn.pool l.t l.width l.used link in last_to t l.slot ≡ last_live t

@@ -3,38 +3,20 @@ use mathlib.Core.Path.{sym, ◌∙◌}
 use Rattle.file_checks.proofs.Loop.{too_many, passed_first, passed-departs, passed-next, passed-whole, passed_more}
 use Rattle.file_checks.proofs.check_runs.Goals as goal
 
-pub overflow_mul-n : goal.overflow_mul-n
-overflow_mul-n c = record { fits = omega (arith, c.get4-count.ensures.1) }
-
 pub returns-then-b-n : goal.returns-then-b-n
-returns-then-b-n c = too_many c.args.b.now 1 c.get4-count.result c.requires c.get4-count.ensures.0 c.if-b-n.true
+returns-then-b-n c = too_many c.args.b.now 1 c.get4-runs.result c.requires c.get4-runs.ensures.0 c.if-b-n.true
 
-pub overflow_mul-at : goal.overflow_mul-at
-overflow_mul-at c = record { fits = omega (arith, c.get4-count.ensures.1) }
+pub loop-i-init : goal.loop-i-init
+loop-i-init c = passed_first c.args.b.now 1 c.get4-runs.result c.requires c.get4-runs.ensures.0 c.if-b-n.false
 
-pub overflow_add-at : goal.overflow_add-at
-overflow_add-at c = record { fits = omega (arith, c.get4-count.ensures.1) }
+pub returns-in_err-body : goal.returns-in_err-body
+returns-in_err-body c = c.from_residual.ensures ∙ passed-departs c.loop-i.invariant c.loop-i-test.true (sym c.in_err-body.ensures)
 
-pub loop-left-init : goal.loop-left-init
-loop-left-init c = passed_first c.args.b.now 1 c.get4-count.result c.requires c.get4-count.ensures.0 c.if-b-n.false
-
-pub check_run-requires : goal.check_run-requires
-check_run-requires c = (c.loop-left.invariant.within, omega (arith, c.loop-left.invariant.room, c.loop-left-test.true))
-
-pub returns-in_default : goal.returns-in_default
-returns-in_default c = passed-departs c.loop-left.invariant c.loop-left-test.true (sym c.check_run.ensures ∙ c.in_default.is)
-
-pub overflow_add-frames : goal.overflow_add-frames
-overflow_add-frames c = let p = passed-next c.loop-left.invariant c.loop-left-test.true _ _ (sym c.check_run.ensures ∙ c.in-At.is) in record { fits = omega (arith, p.few, p.within) }
-
-pub overflow_add-entry : goal.overflow_add-entry
-overflow_add-entry c = record { fits = omega (arith, c.loop-left.invariant.room, c.loop-left-test.true) }
-
-pub loop-left-preserved : goal.loop-left-preserved
-loop-left-preserved c = passed-next c.loop-left.invariant c.loop-left-test.true _ _ (sym c.check_run.ensures ∙ c.in-At.is)
+pub loop-i-preserved : goal.loop-i-preserved
+loop-i-preserved c = passed-next c.loop-i.invariant c.loop-i-test.true _ (sym c.in_ok-body.ensures)
 
 pub returns-then-at-b : goal.returns-then-at-b
-returns-then-at-b c = passed-whole c.loop-left.invariant c.loop-left-test.false c.if-at-b.true
+returns-then-at-b c = passed_more c.loop-i.invariant (omega (arith, c.loop-i-test.false, c.loop-i.auto.i-end)) c.if-at-b.true
 
 pub returns : goal.returns
-returns c = passed_more c.loop-left.invariant c.loop-left-test.false c.if-at-b.false
+returns c = passed-whole c.loop-i.invariant (omega (arith, c.loop-i-test.false, c.loop-i.auto.i-end)) c.if-at-b.false

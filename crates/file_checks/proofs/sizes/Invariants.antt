@@ -1,8 +1,9 @@
-use Rattle.file_checks.proofs.Summing.{Summed}
+use Prim.Native.Nat.{◌*◌, ◌≤◌}
+use mathlib.Core.Path.{◌≡◌}
+use lib.ListN.{drop}
+use Rattle.rules.specs.RunFile.{total}
+use Rattle.rules.proofs.Laws.Fixed.{frames_here}
 use Rattle.file_checks.proofs.sizes.Given as goal
 
-abbrev pub invariant-loop-left : goal.invariant-loop-left
-invariant-loop-left l = Summed l.b l.at l.n 1 12 l.sum l.left l.place
-
-abbrev pub decreases-loop-left : goal.decreases-loop-left
-decreases-loop-left l = l.left
+abbrev pub invariant-loop-i : goal.invariant-loop-i
+invariant-loop-i l = (l.sum ≡ total (frames_here 1 l.i (drop l.at l.b))) × (l.sum ≤ l.i * 4294967295)

@@ -22,4 +22,4 @@ begin-next-requires c = record { safe = safe _ c.requires; elems = c.is_full-2.e
 
 pub returns : goal.returns
 unfolding new_run
-returns c = rw (sized-is c.args.size (omega (arith, c.ranges.size)), c.is_full.ensures ∙ c.if-is_full.false, c.is_full-2.ensures ∙ c.if-is_full-2.false, c.begin-next.ensures, c.slot-slot.ensures)
+returns c = rw (sized-is c.args.size (omega (arith, c.ranges.size)), c.is_full.ensures ∙ c.if-is_full.false, c.is_full-2.ensures ∙ c.if-is_full-2.false, c.plain.ensures, c.begin-next.ensures, c.slot-slot.ensures)

@@ -1,9 +1,5 @@
 use Rattle.moves.proofs.Laying.{Laying}
-use Prim.Native.Nat.{◌-◌}
 use Rattle.moves.proofs.lay.Given as goal
 
 abbrev pub invariant-loop-k : goal.invariant-loop-k
 invariant-loop-k l = Laying l.runs l.initial.elems l.initial.shared l.headers l.elems l.shared l.k l.at
-
-abbrev pub decreases-loop-k : goal.decreases-loop-k
-decreases-loop-k l = l.runs - l.k

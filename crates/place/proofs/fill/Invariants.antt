@@ -1,9 +1,6 @@
 use Prim.Native.Nat.{◌-◌}
-use Rattle.place.proofs.Passes.{Filling}
+use Rattle.place.specs.Headers.{Filled}
 use Rattle.place.proofs.fill.Given as goal
 
-abbrev pub invariant-loop-i : goal.invariant-loop-i
-invariant-loop-i l = Filling l.initial.elems l.at l.n l.class l.elems l.i
-
-abbrev pub decreases-loop-i : goal.decreases-loop-i
-decreases-loop-i l = l.n - l.i
+abbrev pub invariant-loop-slot : goal.invariant-loop-slot
+invariant-loop-slot l = Filled l.initial.elems l.at (l.slot - l.at) l.class l.elems

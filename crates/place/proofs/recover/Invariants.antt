@@ -1,9 +1,5 @@
-use Prim.Native.Nat.{◌-◌}
 use Rattle.place.proofs.Passes.{Recovering}
 use Rattle.place.proofs.recover.Given as goal
 
 abbrev pub invariant-loop-k : goal.invariant-loop-k
-invariant-loop-k l = Recovering l.runs l.initial.elems l.shared l.elems l.k l.at
-
-abbrev pub decreases-loop-k : goal.decreases-loop-k
-decreases-loop-k l = l.runs - l.k
+invariant-loop-k l = Recovering l.initial.elems l.shared l.elems l.k l.at

@@ -1,25 +1,11 @@
-use Rattle.ranks.proofs.Packing.{packing_start, packing_at, packing_few, packing_next, packing_done}
-use native.Mathlib.Omega.{arith}
-use Prim.Native.Nat.{◌-◌}
+use Rattle.ranks.proofs.Packing.{packing_start, packing_at, packing_few, packing_next}
 use Rattle.ranks.proofs.pack.Goals as goal
 
 pub loop-k-init : goal.loop-k-init
-loop-k-init c = packing_start _ _ _ _ _ _ c.requires
-
-pub overflow_add-k : goal.overflow_add-k
-overflow_add-k c = omega (arith, c.loop-k.invariant.fields.few, c.loop-k-test.true)
+loop-k-init c = packing_start _ _ _ _ _
 
 pub pack_one-packed-requires : goal.pack_one-packed-requires
-pack_one-packed-requires c = let R = c.loop-k.invariant in let l = c.loop-k-test.true in let F = packing_few _ _ _ _ _ _ _ _ _ R l in (packing_at _ _ _ _ _ _ _ _ _ R l, R.fields.reads, R.fields.writes, F.0, F.1)
-
-pub overflow_add-k-in-loop-k : goal.overflow_add-k-in-loop-k
-overflow_add-k-in-loop-k c = omega (arith, c.loop-k.invariant.fields.few, c.loop-k-test.true)
-
-pub loop-k-smaller : goal.loop-k-smaller
-loop-k-smaller c = omega (arith, c.loop-k-test.true)
+pack_one-packed-requires c = let R = c.loop-k.invariant in let l = c.loop-k-test.true in let F = packing_few _ _ _ _ _ _ c.requires _ _ _ R l in (packing_at _ _ _ _ _ _ c.requires _ _ _ R l, c.requires.reads, c.requires.writes, F.0, F.1)
 
 pub loop-k-preserved : goal.loop-k-preserved
-loop-k-preserved c = packing_next _ _ _ _ _ _ _ _ _ c.loop-k.invariant c.loop-k-test.true _ _ c.pack_one-packed.ensures
-
-pub returns : goal.returns
-returns c = packing_done _ _ _ _ _ _ _ _ _ c.loop-k.invariant c.loop-k-test.false
+loop-k-preserved c = packing_next _ _ _ _ _ _ c.requires _ _ _ c.loop-k.invariant c.loop-k-test.true _ _ c.pack_one-packed.ensures

@@ -1,9 +1,5 @@
 use Rattle.ranks.proofs.Ranking.{Ranking}
-use Prim.Native.Nat.{◌-◌}
 use Rattle.ranks.proofs.rank.Given as goal
 
 abbrev pub invariant-loop-k : goal.invariant-loop-k
-invariant-loop-k l = Ranking l.width l.initial.t l.used l.into l.slots l.t l.k l.ranked
-
-abbrev pub decreases-loop-k : goal.decreases-loop-k
-decreases-loop-k l = l.slots - l.k
+invariant-loop-k l = Ranking l.width l.initial.t l.used l.into l.t l.k l.ranked

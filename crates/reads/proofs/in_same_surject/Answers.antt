@@ -1,7 +1,7 @@
-use Rattle.slots.proofs.Live.{on-live}
 use Rattle.rules.specs.Reads.{in_same_surject}
+use Rattle.slots.proofs.Live.{on-live}
 use Rattle.rules.proofs.Laws.Safe.{safe}
-use borrow.Author.Tests.{eq-eqb, ne_eqb}
+use Rattle.std.proofs.lemmas.Result.{err_from_is_err_and}
 use mathlib.Core.Path.{◌∙◌}
 use Rattle.std.proofs.Common.{rules}
 use Rattle.reads.proofs.in_same_surject.Goals as goal
@@ -9,29 +9,23 @@ use Rattle.reads.proofs.in_same_surject.Goals as goal
 pub find-requires : goal.find-requires
 find-requires c = let s = safe _ c.requires in search rules
 
-pub returns-in-Dead : goal.returns-in-Dead
+pub returns-in_err-x : goal.returns-in_err-x
 unfolding in_same_surject
-returns-in-Dead c = let s = c.args.shared.now in rw ((c.find.ensures s).same ∙ c.in-Dead.is)
+returns-in_err-x c = let p = err_from_is_err_and c.from_residual.result c.from_residual.ensures.1 in rw (p.1, p.2, (c.find.ensures c.args.shared.now).same, c.in_err-x.was)
 
 pub find-requires-2 : goal.find-requires-2
 find-requires-2 c = let s = safe _ c.requires in search rules
 
-pub returns-in-Dead-find : goal.returns-in-Dead-find
+pub returns-in_err-y : goal.returns-in_err-y
 unfolding in_same_surject
-returns-in-Dead-find c = let s = c.args.shared.now in rw ((c.find.ensures s).same ∙ c.in-Live.is, (c.find-2.ensures s).same ∙ c.in-Dead-find.is)
+returns-in_err-y c = let p = err_from_is_err_and c.from_residual-in_err-y.result c.from_residual-in_err-y.ensures.1 in rw (p.1, p.2, (c.find.ensures c.args.shared.now).same, c.in_ok-x.was, (c.find-2.ensures c.args.shared.now).same, c.in_err-y.was)
 
 pub get-class-requires : goal.get-class-requires
-get-class-requires c = let l = on-live _ _ _ _ c.requires (c.find.ensures _) c.in-Live.is in search rules
+get-class-requires c = let l = on-live _ _ _ _ c.requires (c.find.ensures _) c.in_ok-x.was in search rules
 
 pub get-requires : goal.get-requires
-get-requires c = let l = on-live _ _ _ _ c.requires (c.find-2.ensures _) c.in-Live-find.is in search rules
-
-pub returns-then-class-get : goal.returns-then-class-get
-unfolding in_same_surject
-returns-then-class-get c = let s = c.args.shared.now in
-    rw ((c.find.ensures s).same ∙ c.in-Live.is, (c.find-2.ensures s).same ∙ c.in-Live-find.is, ← c.get-class.ensures, ← c.get.ensures, eq-eqb _ _ c.if-class-get.true)
+get-requires c = let l = on-live _ _ _ _ c.requires (c.find-2.ensures _) c.in_ok-y.was in search rules
 
 pub returns : goal.returns
 unfolding in_same_surject
-returns c = let s = c.args.shared.now in
-    rw ((c.find.ensures s).same ∙ c.in-Live.is, (c.find-2.ensures s).same ∙ c.in-Live-find.is, ← c.get-class.ensures, ← c.get.ensures, ne_eqb _ _ c.if-class-get.false)
+returns c = let s = c.args.shared.now in rw ((c.find.ensures s).same ∙ c.in_ok-x.was, (c.find-2.ensures s).same ∙ c.in_ok-y.was, ← c.get-class.ensures, ← c.get.ensures)

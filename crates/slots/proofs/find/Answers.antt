@@ -1,11 +1,12 @@
 use Rattle.slots.proofs.Ways.{looks_none, looks_past, looks_free, looks_live, looks_other}
+use Rattle.slots.proofs.find.Goals.{then-slot-eq0-via-then-slot-eq0, then-slot-eq0-via-else-slot-eq0+then-head-slot}
 use Rattle.slots.proofs.find.Goals as goal
 
 pub returns-then-slot-eq0 : goal.returns-then-slot-eq0
-returns-then-slot-eq0 c = λ s. looks_none _ _ c.if-slot-eq0.true
-
-pub returns-then-head-slot : goal.returns-then-head-slot
-returns-then-head-slot c = λ s. looks_past _ _ c.if-head-slot.true
+returns-then-slot-eq0 c = λ s. elim c.then-slot-eq0.branch [
+  | then-slot-eq0-via-then-slot-eq0 w ↦ looks_none _ _ w.if-slot-eq0.true
+  | then-slot-eq0-via-else-slot-eq0+then-head-slot w ↦ looks_past _ _ w.if-head-slot.true
+]
 
 pub returns-then-generation-eq0 : goal.returns-then-generation-eq0
 returns-then-generation-eq0 c = λ s. looks_free _ _ c.if-slot-eq0.false c.if-head-slot.false (rw (← c.get-generation.ensures) c.if-generation-eq0.true)

@@ -1,8 +1,8 @@
-use Rattle.slots.proofs.Rewrites.{Rewriting}
+use Rattle.std.proofs.Common.{◌≡◌}
+use Rattle.rules.specs.Notation.{steps}
+use Rattle.rules.specs.Tables.{next_of}
+use Rattle.rules.specs.Runs.{rewritten}
 use Rattle.slots.proofs.rewrite.Given as goal
 
-abbrev pub invariant-loop-left : goal.invariant-loop-left
-invariant-loop-left l = Rewriting l.initial.e l.n l.x l.class l.e l.left l.at
-
-abbrev pub decreases-loop-left : goal.decreases-loop-left
-decreases-loop-left l = l.left
+abbrev pub invariant-loop : goal.invariant-loop
+invariant-loop l = (l.e ≡ rewritten l.counter l.initial.e l.x l.class) × (l.at ≡ steps (next_of l.initial.e) l.counter l.x)

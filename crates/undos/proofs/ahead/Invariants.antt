@@ -1,8 +1,7 @@
-use Rattle.undos.proofs.Tracing.{Stepping}
+use Rattle.std.proofs.Common.{◌≡◌}
+use Rattle.rules.specs.Notation.{steps}
+use Rattle.rules.specs.Tables.{next_of}
 use Rattle.undos.proofs.ahead.Given as goal
 
-abbrev pub invariant-loop-left : goal.invariant-loop-left
-invariant-loop-left l = Stepping l.e l.n l.x l.left l.at
-
-abbrev pub decreases-loop-left : goal.decreases-loop-left
-decreases-loop-left l = l.left
+abbrev pub invariant-loop : goal.invariant-loop
+invariant-loop l = l.at ≡ steps (next_of l.e) l.counter l.x

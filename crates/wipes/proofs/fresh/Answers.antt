@@ -9,4 +9,4 @@ pub blank-next-requires : goal.blank-next-requires
 blank-next-requires c = fit_past _ _ _ _ (λ h. c.both_fit.ensures h ∙ c.if-not-both_fit.false)
 
 pub returns : goal.returns
-returns c = fresh-done _ _ _ _ (c.both_fit.ensures _ ∙ c.if-not-both_fit.false) (rw c.blank-next.ensures)
+returns c = fresh-done _ _ _ _ (c.both_fit.ensures _ ∙ c.if-not-both_fit.false) (rw (c.plain.ensures, c.blank-next.ensures))

@@ -1,29 +1,19 @@
 use mathlib.Core.Path.{refl}
-use native.Mathlib.Omega.{arith}
-use Rattle.rings.proofs.Listing.{listing_at, listing_place, listing_next, listing_done}
-use Rattle.std.proofs.Common.{rules}
+use Rattle.std.proofs.Common.{add-one, rules}
+use Rattle.rules.proofs.Laws.Steps.{steps-suc}
+use Rattle.rules.specs.Drains.{key_width}
+use Rattle.rings.specs.Answered.{key_place}
+use Rattle.rings.proofs.Listing.{place_next, places_next}
 use Rattle.rings.proofs.lists.write_keys.Goals as goal
 
-pub loop-left-init : goal.loop-left-init
-loop-left-init c = record { long = refl; ahead = c.requires.0; room = omega (arith, c.requires.1); rest = refl }
-
 pub get-generation-requires : goal.get-generation-requires
-get-generation-requires c = let w = listing_at _ _ _ _ _ _ _ _ _ _ c.loop-left.invariant c.loop-left-test.true in search rules
-
-pub overflow_add-written : goal.overflow_add-written
-overflow_add-written c = omega (arith, c.loop-left.invariant.room)
+get-generation-requires c = let w = c.requires.0.each _ c.loop-written-test.true in rw c.loop-written.invariant.0 (search rules)
 
 pub write_key-requires : goal.write_key-requires
-write_key-requires c = listing_place _ _ _ _ _ _ _ _ _ _ c.loop-left.invariant c.loop-left-test.true
+write_key-requires c = place_next _ _ _ _ _ c.loop-written.auto.out c.requires.1 c.loop-written-test.true
 
-pub get-at-requires : goal.get-at-requires
-get-at-requires c = let w = listing_at _ _ _ _ _ _ _ _ _ _ c.loop-left.invariant c.loop-left-test.true in search rules
-
-pub overflow_add-written-in-loop-left : goal.overflow_add-written-in-loop-left
-overflow_add-written-in-loop-left c = omega (arith, c.loop-left.invariant.room)
-
-pub loop-left-preserved : goal.loop-left-preserved
-loop-left-preserved c = rw (c.get-at.ensures, c.write_key.ensures, c.get-generation.ensures) (listing_next _ _ _ _ _ _ _ _ _ _ c.loop-left.invariant refl c.loop-left-test.true)
-
-pub returns : goal.returns
-returns c = listing_done _ _ _ _ _ _ _ _ _ _ c.loop-left.invariant c.loop-left-test.false
+pub loop-written-preserved : goal.loop-written-preserved
+loop-written-preserved c = (
+  rw (c.get-at.ensures, c.loop-written.invariant.0, add-one, steps-suc) refl,
+  rw (c.write_key.ensures, c.get-generation.ensures, c.loop-written.invariant.0, c.loop-written.invariant.1) (places_next key_width (key_place c.args.elems.now) (λ s. refl) c.args.elems.now c.args.out.now c.args.x c.loop-written.written),
+)

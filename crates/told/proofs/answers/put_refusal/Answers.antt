@@ -1,18 +1,20 @@
--- `told::answers::put_refusal` meets its contract.
-use Rattle.told.proofs.Texts.{two_digits, one_cause}
+use Rattle.told.proofs.Texts.{two_digits}
 use Rattle.told.proofs.Puts.{put_then}
-use Rattle.numbers.proofs.Told.{few}
 use native.Mathlib.Omega.{arith}
 use Rattle.told.proofs.answers.put_refusal.Goals as goal
 
 pub put_cause-requires : goal.put_cause-requires
 put_cause-requires c =
-    let d = two_digits c.args.refusal in
     let p = rw c.number_of.ensures at c.put_decimal-end.ensures.put.past in
-    (omega (arith, d, p, c.put_text-number.ensures.past, c.requires), rw c.cause_of.ensures (few c.args.refusal).1)
+    omega (arith, two_digits c.args.refusal, p, c.put_text-number.ensures.past, c.requires)
 
-pub returns : goal.returns
-returns c =
+pub returns-in-Dead-clause-put : goal.returns-in-Dead-clause-put
+returns-in-Dead-clause-put c =
     let p = rw c.number_of.ensures at c.put_decimal-end.ensures.put in
-    let q = rw (c.cause_of.ensures, one_cause c.args.refusal) at c.put_cause.ensures.put in
-    record { put = put_then (put_then c.put_text-number.ensures p) q; upper_bound = omega (arith, two_digits c.args.refusal, p.past, c.put_text-number.ensures.past, c.put_cause.ensures.upper_bound) }
+    let q = put_then (put_then c.put_text-number.ensures p) c.put_cause.ensures.put in
+    rw c.in-Dead.is (rw c.in-Dead.is at q)
+
+pub returns-in-Dead-clause-upper_bound : goal.returns-in-Dead-clause-upper_bound
+returns-in-Dead-clause-upper_bound c =
+    let p = rw c.number_of.ensures at c.put_decimal-end.ensures.put.past in
+    omega (arith, two_digits c.args.refusal, p, c.put_text-number.ensures.past, c.put_cause.ensures.upper_bound)

@@ -1,8 +1,5 @@
--- `lines::read::read_remove` meets its contract.
+use mathlib.Core.List.{[]}
 use Rattle.words.proofs.read.read_remove.Goals as goal
 
-pub returns-in_default : goal.returns-in_default
-returns-in_default c = λ st. rw (c.last_key.ensures, c.in_default.is)
-
 pub returns : goal.returns
-returns c = λ st. rw (c.last_key.ensures, c.in-Is.is)
+returns c = λ st. rw (c.in_ok-key.ensures [], c.in_ok-end.ensures)

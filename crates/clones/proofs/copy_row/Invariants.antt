@@ -1,9 +1,0 @@
-use Rattle.clones.proofs.Rows.{Rowing}
-use Prim.Native.Nat.{◌-◌}
-use Rattle.clones.proofs.copy_row.Given as goal
-
-abbrev pub invariant-loop-field : goal.invariant-loop-field
-invariant-loop-field l = Rowing l.width l.initial.to l.place l.from l.slot l.to l.field
-
-abbrev pub decreases-loop-field : goal.decreases-loop-field
-decreases-loop-field l = l.width - l.field

@@ -1,6 +1,0 @@
-use Rattle.slots.proofs.Places.{row_puts}
-use mathlib.Core.Path.{sym}
-use Rattle.seals.proofs.write_place.Goals as goal
-
-pub returns : goal.returns
-returns c = rw (c.put-3.ensures, c.put-2.ensures, c.put.ensures) (sym (row_puts _ _ _ _ c.requires.some))
