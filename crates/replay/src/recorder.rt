@@ -40,36 +40,36 @@ impl Recorder {
     // Makes the record's call, and answers whether it said the same.
     pub fn replay(&mut self, sample: &Record) -> bool {
         match Call::from(sample) {
-            Call::Fresh => sample.is_done(self.fresh()),
-            Call::Check => sample.is_done(self.check()),
-            Call::LenSurject(k) => sample.is_number(self.len_surject(k)),
-            Call::InSameSurject(j, k) => sample.is_same(self.in_same_surject(j, k)),
-            Call::Get(k) => sample.is_number(self.get(k)),
-            Call::GetShared(k) => sample.is_number(self.get_shared(k)),
-            Call::Set(k, payload) => sample.is_number(self.set(k, payload)),
-            Call::SetShared(k, value) => sample.is_number(self.set_shared(k, value)),
-            Call::Exchange(frames, values) => sample.is_old(self.exchange(frames, values)),
+            Call::Fresh => sample.is_said(self.fresh()),
+            Call::Check => sample.is_said(self.check()),
+            Call::LenSurject(k) => sample.is_said(self.len_surject(k)),
+            Call::InSameSurject(j, k) => sample.is_said(self.in_same_surject(j, k)),
+            Call::Get(k) => sample.is_said(self.get(k)),
+            Call::GetShared(k) => sample.is_said(self.get_shared(k)),
+            Call::Set(k, payload) => sample.is_said(self.set(k, payload)),
+            Call::SetShared(k, value) => sample.is_said(self.set_shared(k, value)),
+            Call::Exchange(frames, values) => sample.is_said(self.exchange(frames, values)),
             Call::InsertSurject(new, payload, value) => {
-                sample.is_done(self.insert_surject(new, payload, value))
+                sample.is_said(self.insert_surject(new, payload, value))
             }
-            Call::Insert(at, new, payload) => sample.is_done(self.insert(at, new, payload)),
+            Call::Insert(at, new, payload) => sample.is_said(self.insert(at, new, payload)),
             Call::Union(j, k) => is_joined(self.union(j, k), &self.given, sample),
             Call::RemoveElement(k) => {
                 self.remove_element(k)
-                    .is_some_and(|answer| sample.is_removed(answer))
-            },
+                    .is_some_and(|answer| sample.is_said(answer))
+            }
             Call::RemoveShared(k) => {
                 self.remove_shared(k)
-                    .is_some_and(|answer| sample.is_number(answer))
-            },
+                    .is_some_and(|answer| sample.is_said(answer))
+            }
             Call::List(k) => self.is_list(k, sample),
             Call::Drain(k) => self.is_drained(k, sample),
-            Call::DrainAll => sample.is_number(self.drain_all()),
-            Call::Clear => self.clear().is_some_and(|answer| sample.is_done(answer)),
+            Call::DrainAll => sample.is_said(self.drain_all()),
+            Call::Clear => self.clear().is_some_and(|answer| sample.is_said(answer)),
             Call::Compress(reset) => {
                 self.compress(reset)
-                    .is_some_and(|answer| sample.is_done(answer))
-            },
+                    .is_some_and(|answer| sample.is_said(answer))
+            }
         }
     }
 

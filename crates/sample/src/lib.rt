@@ -2,10 +2,10 @@
 // (Running against the Rust).
 #![tactic(auto)]
 
-ghost use Rattle.std.specs.Prelude.{◌≡◌, IfSome};
+ghost use Rattle.std.specs.Prelude.{◌≡◌, ℕ, List, IfSome};
 ghost use Rattle.rules.specs.Refusals.{said_refused};
 ghost use Rattle.rules.specs.Answers.{said, no_values, one_value, yes_or_no, old_values};
-ghost use Rattle.sample.specs.Sample.{refusal_of, count_of, answer_at, Listed, Agrees, rest_answers, removed_answers, OnlyIf};
+ghost use Rattle.sample.specs.Sample.{refusal_of, count_of, answer_at, Listed, Agrees, removed_answers, OnlyIf};
 
 use numbers::answers::number_of;
 use rules::{Refusal, Removed, Rest};
@@ -60,65 +60,72 @@ impl Record {
         number_of(refusal) == u64::from(self.bytes[REFUSED])
     }
 
-    // One number.
-    pub fn is_number(&self, answer: Result<u64, Refusal>) -> bool
-        ensures { OnlyIf (Agrees (said one_value answer) self.now.bytes) result }
+    // The refusal is the record's, or the answer's values are.
+    pub fn is_said<T: Told>(&self, answer: Result<T, Refusal>) -> bool
+        ensures { OnlyIf (Agrees (said T.values answer) self.now.bytes) result }
     {
         match answer {
-            Ok(n) => self.is_answer(0, n),
+            Ok(told) => told.is_told(self),
             Err(refusal) => self.is_refused(refusal),
         }
     }
+}
 
-    // An answer that has no values.
-    pub fn is_done(&self, answer: Result<(), Refusal>) -> bool
-        ensures { OnlyIf (Agrees (said no_values answer) self.now.bytes) result }
-    {
-        match answer {
-            Ok(()) => self.is_accepted(),
-            Err(refusal) => self.is_refused(refusal),
-        }
+// What an accepted call answers.
+pub trait Told {
+    ghost values: { Self → List ℕ };
+
+    // The call was accepted, and the answer's values are the record's.
+    fn is_told(self, sample: &Record) -> bool
+        ensures { OnlyIf ((0 ≡ refusal_of sample.now.bytes) × Listed 0 (values self) sample.now.bytes) result };
+}
+
+impl Told for () {
+    ghost values = { no_values };
+
+    fn is_told(self, sample: &Record) -> bool {
+        sample.is_accepted()
     }
+}
 
-    // Yes or no.
-    pub fn is_same(&self, answer: Result<bool, Refusal>) -> bool
-        ensures { OnlyIf (Agrees (said yes_or_no answer) self.now.bytes) result }
-    {
-        self.is_number(answer.map(u64::from))
+impl Told for u64 {
+    ghost values = { one_value };
+
+    fn is_told(self, sample: &Record) -> bool {
+        sample.is_answer(0, self)
     }
+}
 
-    // Four old values, in key order.
-    pub fn is_old(&self, answer: Result<[u64; 4], Refusal>) -> bool
-        ensures { OnlyIf (Agrees (said old_values answer) self.now.bytes) result }
-    {
-        match answer {
-            Ok(old) => {
-                self.is_answer(0, old[0])
-                    && self.is_answer(1, old[1])
-                    && self.is_answer(2, old[2])
-                    && self.is_answer(3, old[3])
-            }
-            Err(refusal) => self.is_refused(refusal),
-        }
+// Yes is 1 and no is 0.
+impl Told for bool {
+    ghost values = { yes_or_no };
+
+    fn is_told(self, sample: &Record) -> bool {
+        sample.is_answer(0, u64::from(self))
     }
+}
 
-    // A removal: the payload, and the rest of the run.
-    pub fn is_removed(&self, answer: Result<Removed, Refusal>) -> bool
-        ensures { OnlyIf (Agrees (said removed_answers answer) self.now.bytes) result }
-    {
-        match answer {
-            Ok(removed) => self.is_answer(0, removed.payload) && self.is_rest(removed.rest),
-            Err(refusal) => self.is_refused(refusal),
-        }
+// Four old values, in key order.
+impl Told for [u64; 4] {
+    ghost values = { old_values };
+
+    fn is_told(self, sample: &Record) -> bool {
+        sample.is_answer(0, self[0])
+            && sample.is_answer(1, self[1])
+            && sample.is_answer(2, self[2])
+            && sample.is_answer(3, self[3])
     }
+}
 
-    // Whether the run goes on without the frame, and its value if not.
-    fn is_rest(&self, rest: Rest) -> bool
-        ensures { OnlyIf (Listed 1 (rest_answers rest) self.now.bytes) result }
-    {
-        match rest {
-            Rest::GoesOn => self.is_answer(1, 0) && self.is_answer(2, 0),
-            Rest::Last(value) => self.is_answer(1, 1) && self.is_answer(2, value),
-        }
+// A removal: the payload, and whether the run goes on without the frame, with its value if not.
+impl Told for Removed {
+    ghost values = { removed_answers };
+
+    fn is_told(self, sample: &Record) -> bool {
+        let (last, value) = match self.rest {
+            Rest::GoesOn => (0, 0),
+            Rest::Last(value) => (1, value),
+        };
+        sample.is_answer(0, self.payload) && sample.is_answer(1, last) && sample.is_answer(2, value)
     }
 }
