@@ -1,6 +1,6 @@
 -- What the first pass read stands in the bytes, run after run.
 use Rattle.std.specs.Prelude.{if◌then◌else◌, ◌==◌}
-use Prim.Native.Nat.{ℕ, zero, suc, ◌+◌, ◌*◌, ◌-◌, ◌≤◌, ◌<◌}
+use Prim.Native.Nat.{ℕ, suc, ◌+◌, ◌*◌, ◌≤◌, ◌<◌}
 use mathlib.Core.Path.{◌≡◌, refl, sym, ap, ◌∙◌, subst}
 use mathlib.Core.Bool.{Bool, true, false, ◌&&◌}
 use mathlib.Core.List.{List, [], ◌∷◌}
@@ -11,14 +11,11 @@ use lib.ListN.{length, drop, length-drop}
 use lib.Seq.{drop-drop}
 use Rattle.rules.specs.Notation.{◌≤?◌}
 use Rattle.rules.specs.Bytes.{Got, unread, got, onward, return, reject, times, value}
-use Rattle.rules.specs.RunFile.{StoredFrame, StoredRun, Entry, total, frame_length, body_length, first_body, frame_count, body, entry, bodies, runs, Parsed, departs, holds, whole, parse}
-use Rattle.rules.specs.ReadFile.{held_in}
+use Rattle.rules.specs.RunFile.{StoredFrame, StoredRun, Entry, total, frame_length, body_length, first_body, body, entry, bodies, runs, Parsed, departs, holds, whole, parse}
 use Rattle.rules.proofs.Laws.Numbers.{number-some}
 use Rattle.rules.proofs.Laws.RoundTrip.{guarded, both}
 use Rattle.rules.proofs.Laws.Fixed.{each, each-length, frame_here, frames_here, count_here, run_here, entry_here, entry_sized, times-some, times_none, body_short, body-cut, body-told, Leaves, body_leaves}
-use Rattle.file_checks.specs.declared.Checked.TheVariants as checked
-use Rattle.file_checks.specs.Said.{said_parsed}
-use Rattle.file_reads.specs.Fills.{held, Stands, Standing}
+use Rattle.file_reads.specs.Fills.{Stands, Standing}
 
 -- a body that was read says its total
 body-sum : (v : ℕ) (b : List ℕ) (r : StoredRun) (rest : List ℕ) → body v b ≡ got r rest → value 8 (drop 8 b) ≡ total r.frames

@@ -2,18 +2,18 @@
 use mathlib.Core.Path.{◌≡◌, refl, sym, ap, subst, ◌∙◌}
 use mathlib.Core.Logic.{◌≢◌, ◌⊎◌, inl, inr}
 use mathlib.Core.Bool.{true, false}
-use mathlib.Core.List.{List, [], ◌∷◌, ◌++◌}
+use mathlib.Core.List.{List, [], ◌∷◌}
 use Prim.Native.Nat.{ℕ, suc, ◌+◌, ◌-◌, ◌≤◌, ◌<◌}
 use native.Mathlib.Omega.{arith}
 use native.Mathlib.Decide.{ℕ_discrete}
-use lib.ListN.{length, length-append}
+use lib.ListN.{length-append}
 use Rattle.marks.specs.Marks.{marked, Added}
-use Rattle.rules.specs.Tables.{generation_of, class_of, next_of, count_of, total_of, State}
+use Rattle.rules.specs.Tables.{generation_of, class_of, count_of, total_of, State}
 use Rattle.rules.proofs.Laws.Lists.{All, In, Out, NoDup, all-at, all_of, in_parts, in_left, in_right, nodup_append}
 use Rattle.rules.proofs.Laws.Count.{lives_le, fewer}
 use Rattle.rules.proofs.Laws.Rounds.{Within, Fit, Round, went, went_once}
 use Rattle.turns.specs.Turns.{FreeOk}
-use Rattle.sound.specs.Scans.{FrameAt, FirstAt, Run, frames, classes, slots, RunOk, Scan}
+use Rattle.sound.specs.Scans.{Run, frames, classes, slots, RunOk, Scan}
 use Rattle.pools.proofs.Ask.{differ}
 
 -- ---- lists of runs
