@@ -1,7 +1,8 @@
 -- The tables whole, with zeros past what was stored; and the call: refused with nothing changed, or accepted with both tables built.
+use Rattle.std.specs.Prelude.{None, Some, Ok, Err}
 use mathlib.Core.Path.{◌≡◌, refl, sym, ap, ◌∙◌, subst}
 use mathlib.Core.Bool.{true, false}
-use mathlib.Core.List.{List, [], ◌∷◌, ◌++◌, map}
+use mathlib.Core.List.{List, [], map}
 use Prim.Native.Nat.{ℕ, suc, ◌+◌, ◌*◌, ◌≤◌, ◌<◌}
 use native.Mathlib.Omega.{arith}
 use native.Mathlib.Decide.{dec_lt}
@@ -10,15 +11,11 @@ use borrow.Author.Tests.{le-leb, lt-leb, eq-eqb, ne_eqb}
 use lib.ListN.{length, get_or, drop, get_or-append}
 use lib.Seq.{sets, sets-eq, length-sets, ext_get_or}
 use Rattle.rules.specs.declared.Pool.{Pool}
-use Rattle.rules.specs.declared.Head.{Head}
-use Rattle.rules.specs.declared.HeadDone.{HeadDone}
-use Rattle.rules.specs.declared.Refusal.{Refusal}
-use Rattle.rules.specs.declared.Done.TheVariants as done
 use Rattle.rules.specs.declared.Refusal.TheVariants.{Shape, NoElement, NoShared, NoFile, Version}
 use Rattle.rules.specs.Notation.{flat}
 use Rattle.rules.specs.Tables.{most_slots, frame_width, header_width, blank, State, state_of}
-use Rattle.rules.specs.Refusals.{Ruling, refuse, answer, outcome, shaped}
-use Rattle.rules.specs.Answers.{after_done}
+use Rattle.rules.specs.Refusals.{refuse, answer, outcome, shaped}
+use Rattle.rules.specs.Answers.{no_values, after}
 use Rattle.rules.specs.Compress.{padded, packed_in}
 use Rattle.rules.specs.Bytes.{value}
 use Rattle.rules.specs.RunFile.{StoredRun, frame_count, Parsed, departs, holds, parse}
@@ -27,7 +24,7 @@ use Rattle.rules.proofs.Laws.Places.{padded-long, padded-past, rows_long}
 use Rattle.rules.proofs.Laws.ReadCells.{runs-long}
 use Rattle.rules.proofs.Laws.Soundness.{Shaped, shaped_of}
 use Rattle.copies.specs.Parts.{Zeroed}
-use Rattle.file_checks.specs.declared.Checked.TheVariants as checked
+use Rattle.file_checks.specs.declared.Held.{Held}
 use Rattle.file_checks.specs.Said.{said_parsed}
 use Rattle.file_reads.specs.Fills.{held, Fillable, Buildable}
 use Rattle.file_reads.proofs.Standing.{parse_stands}
@@ -103,74 +100,71 @@ module _ (st : State) (b : List ℕ) (runs frames : ℕ) (B : Buildable st b run
       λ j. state_of (record { elems = u j; shared = v j; generation = 1; undo = blank }) (x j) (y j)
 
 -- ---- the call, by its ways
-abbrev pub refused_by : Head → Refusal → HeadDone
-refused_by head why = record { head = head; answer = done.Refused why; over = false }
-
 -- what the first pass told
-pub told : (b : List ℕ) (runs frames : ℕ) → checked.Holds runs frames ≡ said_parsed (parse 1 b) → (parse 1 b ≡ holds (held b)) × (runs ≡ length (held b)) × (frames ≡ frame_count (held b))
-told b runs frames e = go (parse 1 b) e
+pub told : (b : List ℕ) (h : Held) → Some h ≡ said_parsed (parse 1 b) → (parse 1 b ≡ holds (held b)) × (h.runs ≡ length (held b)) × (h.frames ≡ frame_count (held b))
+told b h e = go (parse 1 b) e
   where
-    go : (p : Parsed) → checked.Holds runs frames ≡ said_parsed p → (p ≡ holds (held_in p)) × (runs ≡ length (held_in p)) × (frames ≡ frame_count (held_in p))
-    go departs e = absurd (let z : ◌≡◌ {A = ℕ} 0 1 = cc in omega arith)
+    go : (p : Parsed) → Some h ≡ said_parsed p → (p ≡ holds (held_in p)) × (h.runs ≡ length (held_in p)) × (h.frames ≡ frame_count (held_in p))
+    go departs e = cc
     go (holds rs) e = (refl, cc, cc)
 
-pub untold : (b : List ℕ) → checked.Departs ≡ said_parsed (parse 1 b) → parse 1 b ≡ departs
+pub untold : (b : List ℕ) → None ≡ said_parsed (parse 1 b) → parse 1 b ≡ departs
 untold b e = go (parse 1 b) e
   where
-    go : (p : Parsed) → checked.Departs ≡ said_parsed p → p ≡ departs
+    go : (p : Parsed) → None ≡ said_parsed p → p ≡ departs
     go departs e = refl
-    go (holds rs) e = absurd (let z : ◌≡◌ {A = ℕ} 0 1 = cc in omega arith)
+    go (holds rs) e = cc
 
 module _ (st : State) (b : List ℕ) where
-  pub read_1 : shaped st ≡ false → (r : HeadDone) → r ≡ refused_by st.head Shape → after_done r st.elems st.shared [] ≡ read_step st b
+  pub read_1 : shaped st ≡ false → after no_values st.head (Err Shape) st.elems st.shared [] ≡ read_step st b
   unfolding read_file
-  read_1 s r q = rw (q, s)
+  read_1 s = rw s
 
   module _ (s : shaped st ≡ true) where
-    pub read_short : length b < 8 → (r : HeadDone) → r ≡ refused_by st.head NoFile → after_done r st.elems st.shared [] ≡ read_step st b
+    pub read_short : length b < 8 → after no_values st.head (Err NoFile) st.elems st.shared [] ≡ read_step st b
     unfolding read_file
-    read_short l r q = rw (q, s, le-leb (suc (length b)) 8 l)
+    read_short l = rw (s, le-leb (suc (length b)) 8 l)
 
     module _ (l : 8 ≤ length b) where
-      pub read_11 : (value 4 b ≡ 1 → ⊥) → (r : HeadDone) → r ≡ refused_by st.head Version → after_done r st.elems st.shared [] ≡ read_step st b
+      pub read_11 : (value 4 b ≡ 1 → ⊥) → after no_values st.head (Err Version) st.elems st.shared [] ≡ read_step st b
       unfolding read_file
-      read_11 f r q = rw (q, s, lt-leb (suc (length b)) 8 (omega arith), ne_eqb (value 4 b) 1 f)
+      read_11 f = rw (s, lt-leb (suc (length b)) 8 (omega arith), ne_eqb (value 4 b) 1 f)
 
       module _ (v : value 4 b ≡ 1) where
         known : read_file old_reader st b ≡ into_room st.head.elems.capacity st.head.shared.capacity (parse 1 b)
         unfolding read_file
         known = rw (s, lt-leb (suc (length b)) 8 (omega arith), eq-eqb (value 4 b) 1 v, v)
 
-        pub read_9 : checked.Departs ≡ said_parsed (parse 1 b) → (r : HeadDone) → r ≡ refused_by st.head NoFile → after_done r st.elems st.shared [] ≡ read_step st b
+        pub read_9 : None ≡ said_parsed (parse 1 b) → after no_values st.head (Err NoFile) st.elems st.shared [] ≡ read_step st b
         unfolding into_room
-        read_9 e r q = rw (q, known, untold b e)
+        read_9 e = rw (known, untold b e)
 
-        module _ (runs frames : ℕ) (t : checked.Holds runs frames ≡ said_parsed (parse 1 b)) where
-          T : (parse 1 b ≡ holds (held b)) × (runs ≡ length (held b)) × (frames ≡ frame_count (held b))
-          T = told b runs frames t
+        module _ (c : Held) (t : Some c ≡ said_parsed (parse 1 b)) where
+          T : (parse 1 b ≡ holds (held b)) × (c.runs ≡ length (held b)) × (c.frames ≡ frame_count (held b))
+          T = told b c t
 
-          pub read_6 : st.head.shared.capacity < runs → (r : HeadDone) → r ≡ refused_by st.head NoShared → after_done r st.elems st.shared [] ≡ read_step st b
+          pub read_6 : st.head.shared.capacity < c.runs → after no_values st.head (Err NoShared) st.elems st.shared [] ≡ read_step st b
           unfolding into_room
-          read_6 h r q =
+          read_6 h =
               let e : into_room st.head.elems.capacity st.head.shared.capacity (holds (held b)) ≡ refuse NoShared = rw (le-leb (suc st.head.shared.capacity) (length (held b)) (omega (arith, h, T.1))) in
-              rw q (sym (ap (outcome st []) (known ∙ ap (into_room st.head.elems.capacity st.head.shared.capacity) T.0 ∙ e)))
+              sym (ap (outcome st []) (known ∙ ap (into_room st.head.elems.capacity st.head.shared.capacity) T.0 ∙ e))
 
-          module _ (h : runs ≤ st.head.shared.capacity) where
-            pub read_5 : st.head.elems.capacity < frames → (r : HeadDone) → r ≡ refused_by st.head NoElement → after_done r st.elems st.shared [] ≡ read_step st b
+          module _ (h : c.runs ≤ st.head.shared.capacity) where
+            pub read_5 : st.head.elems.capacity < c.frames → after no_values st.head (Err NoElement) st.elems st.shared [] ≡ read_step st b
             unfolding into_room
-            read_5 k r q =
+            read_5 k =
                 let e : into_room st.head.elems.capacity st.head.shared.capacity (holds (held b)) ≡ refuse NoElement =
                 rw (lt-leb (suc st.head.shared.capacity) (length (held b)) (omega (arith, h, T.1)), le-leb (suc st.head.elems.capacity) (frame_count (held b)) (omega (arith, k, T.2))) in
-                rw q (sym (ap (outcome st []) (known ∙ ap (into_room st.head.elems.capacity st.head.shared.capacity) T.0 ∙ e)))
+                sym (ap (outcome st []) (known ∙ ap (into_room st.head.elems.capacity st.head.shared.capacity) T.0 ∙ e))
 
-            module _ (k : frames ≤ st.head.elems.capacity) where
-              pub buildable : Buildable st b runs frames
+            module _ (k : c.frames ≤ st.head.elems.capacity) where
+              pub buildable : Buildable st b c.runs c.frames
               buildable =
                   let p = parse_stands b (held b) l T.0 in
                   record { shape = s; standing = p.0; contents = p.1; runs_are = T.1; frames_are = T.2; shared = h; elems = k }
 
               pub read_done : (now : State) → now ≡ read_tables st.head.elems.capacity st.head.shared.capacity (held b)
-                  → after_done (record { head = now.head; answer = done.Done; over = false }) now.elems now.shared [] ≡ read_step st b
+                  → after no_values st.head (Ok (record { head = now.head; answer = tt; over = false })) now.elems now.shared [] ≡ read_step st b
               unfolding into_room
               read_done now q =
                   let e : into_room st.head.elems.capacity st.head.shared.capacity (holds (held b)) ≡ answer [] (read_tables st.head.elems.capacity st.head.shared.capacity (held b)) =

@@ -1,9 +1,8 @@
 -- The loop over the frames of a run: what is stored, and what is left to store.
-use Prim.Native.Nat.{ℕ, zero, suc, ◌+◌, ◌*◌, ◌-◌, ◌≤◌, ◌<◌}
-use mathlib.Core.Path.{◌≡◌, refl, sym, ap, ◌∙◌, subst}
-use mathlib.Core.List.{List, [], ◌∷◌, ◌++◌}
+use Prim.Native.Nat.{ℕ, suc, ◌+◌, ◌*◌, ◌-◌, ◌≤◌, ◌<◌}
+use mathlib.Core.Path.{◌≡◌, sym, ap, ◌∙◌, subst}
+use mathlib.Core.List.{List, ◌++◌}
 use native.Mathlib.Omega.{arith}
-use native.Mathlib.Nat.{suc-mul}
 use lib.ListN.{length, drop}
 use lib.Seq.{sets, length-sets, drop-drop}
 use Rattle.rules.specs.Tables.{most_slots, frame_width, row}
@@ -13,7 +12,6 @@ use Rattle.rules.specs.RunFile.{StoredFrame, frame_length}
 use Rattle.rules.specs.ReadFile.{before_in, after_in, read_frame, read_frames}
 use Rattle.rules.proofs.Laws.Fixed.{each, each_step, frame_here, frames_here}
 use Rattle.littles.proofs.Cells.{sets_append}
-use Rattle.slots.specs.Asked.{Within}
 
 abbrev pub rows_from : List ℕ → (class a n i place : ℕ) → List ℕ
 rows_from b c a n i place = read_frames c a n i (frames_here 1 (n - i) (drop place b))
@@ -26,20 +24,8 @@ pub record Filling (b : List ℕ) (at n c a : ℕ) (t₀ t : List ℕ) (i place 
   pub rest : sets t ((a + i) * frame_width) (rows_from b c a n i place) ≡ sets t₀ (a * frame_width) (rows_from b c a n 0 at)
   pub long : length t ≡ length t₀
 
-pub filling_first : (b : List ℕ) (at n c a : ℕ) (t : List ℕ) → at + n * frame_length 1 ≤ length b → a + n ≤ most_slots → (a + n) * frame_width ≤ length t → Filling b at n c a t t 0 at
-filling_first b at n c a t h s r =
-    let z : n - 0 ≡ n = omega arith in
-    let y : a + 0 ≡ a = omega arith in
-    record { few = omega arith; slots = s; rows = r; room = rw z h; rest = rw y; long = refl }
-
 module _ {b : List ℕ} {at n c a : ℕ} {t₀ t : List ℕ} {i place : ℕ} (f : Filling b at n c a t₀ t i place) where
   module _ (h : i < n) where
-    pub filling_room : place + frame_length 1 ≤ length b
-    filling_room = omega (arith, f.room, h)
-
-    pub filling_within : Within frame_width t (a + i + 1)
-    filling_within = record { some = omega arith; inside = omega (arith, f.rows, h) }
-
     pub filling_next : (p z pv nx : ℕ) (t₁ : List ℕ) → p ≡ value 8 (drop place b) → z ≡ value 4 (drop (place + 8) b) → pv ≡ before_in a n i → nx ≡ after_in a n i
         → t₁ ≡ row frame_width t (a + i + 1) (frame 1 p c pv nx z) → Filling b at n c a t₀ t₁ (i + 1) (place + 12)
     unfolding read_frames frame_here row

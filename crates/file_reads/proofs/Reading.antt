@@ -1,20 +1,19 @@
 -- The loop over the runs: what is stored, and what is left to store.
-use Prim.Native.Nat.{ℕ, zero, suc, ◌+◌, ◌*◌, ◌-◌, ◌≤◌, ◌<◌}
-use mathlib.Core.Path.{◌≡◌, refl, sym, ap, ◌∙◌, subst}
-use mathlib.Core.List.{List, [], ◌∷◌, ◌++◌, map}
+use Prim.Native.Nat.{ℕ, suc, ◌+◌, ◌*◌, ◌≤◌, ◌<◌}
+use mathlib.Core.Path.{◌≡◌, sym, ap, ◌∙◌, subst}
+use mathlib.Core.List.{List, [], ◌∷◌, map}
 use native.Mathlib.Omega.{arith}
 use lib.ListN.{length, drop}
 use lib.Seq.{sets, length-sets}
 use Rattle.rules.specs.Notation.{flat}
 use Rattle.rules.specs.Tables.{most_slots, frame_width, header_width, row}
 use Rattle.rules.specs.Bytes.{value}
-use Rattle.rules.specs.RunFile.{StoredFrame, StoredRun, total, frame_length, body_length, first_body, frame_count}
+use Rattle.rules.specs.RunFile.{StoredRun, total, frame_length, body_length, frame_count}
 use Rattle.rules.specs.ReadFile.{read_frames, read_header, read_runs}
 use Rattle.rules.proofs.Laws.Fixed.{frames_here}
 use Rattle.rules.proofs.Laws.ReadCells.{frames-long}
 use Rattle.littles.proofs.Cells.{sets_append}
-use Rattle.slots.specs.Asked.{Within}
-use Rattle.file_reads.specs.Fills.{held, Stands, Standing, Fillable}
+use Rattle.file_reads.specs.Fills.{Stands, Standing}
 
 -- both tables, with the runs `left` to come: the next header is the `suc k`-th, the next frame goes past the `a`-th slot
 pub record Reading (b e₀ s₀ e s : List ℕ) (all : List StoredRun) (at k a : ℕ) (left : List StoredRun) : Type 0 where
@@ -34,26 +33,6 @@ pub record Reading (b e₀ s₀ e s : List ℕ) (all : List StoredRun) (at k a :
 pub record Left (b e₀ s₀ e s : List ℕ) (all : List StoredRun) (at k a : ℕ) : Type 0 where
   pub left : List StoredRun
   pub reading : Reading b e₀ s₀ e s all at k a left
-
-pub reading_first : (b e s : List ℕ) (runs : ℕ) → Fillable b e s → runs ≡ length (held b) → Left b e s e s (held b) (8 + runs * 8) 0 0
-reading_first b e s runs F n =
-    record {
-      left = held b;
-      reading = record {
-        standing = subst (λ (k : ℕ). Standing b (8 + k * 8) (held b)) (sym n) F.standing;
-        runs = omega arith;
-        frames = omega arith;
-        elems = refl;
-        shared = refl;
-        elems-long = refl;
-        shared_long = refl;
-        elems-room = F.elems;
-        shared-room = F.shared;
-        frames-few = F.frames;
-        runs-few = F.runs;
-        within = omega (arith, F.contents, n);
-      };
-    }
 
 -- the next run, while one is left
 pub record Comes (b e₀ s₀ e s : List ℕ) (all : List StoredRun) (at k a : ℕ) : Type 0 where
@@ -83,12 +62,6 @@ module _ {b e₀ s₀ e s : List ℕ} {all : List StoredRun} {at k a : ℕ} (C :
 
   pub run_rows : (a + length C.run.frames) * frame_width ≤ length e
   run_rows = omega (arith, R.frames, R.elems-room, R.elems-long)
-
-  pub run-header : Within header_width s (k + 1)
-  run-header = record { some = omega arith; inside = omega (arith, R.runs, R.shared-room, R.shared_long) }
-
-  pub run-few : k < most_slots
-  run-few = omega (arith, R.runs, R.runs-few)
 
   pub reading_next : (v z n : ℕ) (e₁ s₁ : List ℕ) → v ≡ value 8 (drop at b) → z ≡ value 8 (drop (at + 8) b) → n ≡ value 4 (drop (at + 16) b)
       → s₁ ≡ row header_width s (k + 1) (n ∷ v ∷ 0 ∷ 0 ∷ z ∷ []) → e₁ ≡ sets e (a * frame_width) (read_frames (k + 1) a n 0 (frames_here 1 n (drop (at + 20) b)))

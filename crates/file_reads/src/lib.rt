@@ -5,40 +5,30 @@ ghost use Rattle.std.specs.Prelude.{◌≡◌, [], map, ◌+◌, ◌*◌, ◌≤
 ghost use Rattle.std.proofs.lemmas.List.Edits.{sets};
 ghost use Rattle.rules.specs.Notation.{flat};
 ghost use Rattle.rules.specs.Tables.{most_slots, frame_width, state_of};
-ghost use Rattle.rules.specs.Compress.{packed_in};
-ghost use Rattle.rules.specs.Answers.{after_done};
+ghost use Rattle.rules.specs.Answers.{no_values, after};
 ghost use Rattle.rules.specs.RunFile.{frame_length, frame_count};
 ghost use Rattle.rules.specs.ReadFile.{read_frames, read_header, read_runs, read_tables, read_step};
 ghost use Rattle.rules.proofs.Laws.Fixed.{frames_here};
 ghost use Rattle.file_reads.specs.Fills.{held, Fillable, Buildable};
 
-use clones::refused;
 use copies::{after, before, zero};
-use file_checks::{Checked, check_runs};
-use littles::{get4, get8};
-use rules::{BLANK, Done, FRAME, HEADER, Head, HeadDone, Pool, Refusal};
+use file_checks::{Held, check_runs};
+use littles::{FRAME_LENGTH, VERSION, get4, get8};
+use rules::{BLANK, FRAME, HEADER, Head, Pool, Refusal, Step};
 use slots::{write_frame, write_header};
-
-// The version that is read, and the bytes to a frame; in the rules, old_reader and frame_length.
-const VERSION: u64 = 1;
-
-const FRAME_LENGTH: usize = 12;
 
 // The frames of a run of class `class` get the slots past `a`.
 fn fill_frames(b: &[u8], at: usize, n: u64, class: u64, a: u64, elems: &mut [u64])
     requires { (at + n * frame_length 1 ≤ length b.now) × (a + n ≤ most_slots) × ((a + n) * frame_width ≤ length elems.old) }
     ensures { elems.new ≡ sets elems.old (a * frame_width) (read_frames class a n 0 (frames_here 1 n (drop at b.now))) }
 {
-    let mut i: u64 = 0;
-    let mut place = at;
-    while i < n {
+    for i in 0..n {
+        let place = at + i as usize * FRAME_LENGTH;
         let payload = get8(b, place);
         let size = get4(b, place + 8);
         let previous = before(a, n, i);
         let next = after(a, n, i);
         write_frame(elems, a + i + 1, 1, payload, class, previous, next, size);
-        place = place + FRAME_LENGTH;
-        i = i + 1;
     }
 }
 
@@ -47,85 +37,63 @@ fn fill_runs(b: &[u8], runs: u64, elems: &mut [u64], shared: &mut [u64])
     requires { Fillable b.now elems.old shared.old × (runs ≡ length (held b.now)) }
     ensures { (elems.new ≡ sets elems.old 0 (read_runs 1 0 (held b.now))) × (shared.new ≡ sets shared.old 0 (flat (map read_header (held b.now)))) }
 {
-    let mut at = 8 + (runs as usize) * 8;
-    let mut k: u64 = 0;
+    let mut at = 8 + runs as usize * 8;
     let mut a: u64 = 0;
-    while k < runs {
+    for k in 0..runs {
         let value = get8(b, at);
         let total = get8(b, at + 8);
         let count = get4(b, at + 16);
         let class = k + 1;
         write_header(shared, class, count, value, 0, total);
         fill_frames(b, at + 20, count, class, a, elems);
-        at = at + 20 + (count as usize) * FRAME_LENGTH;
-        a = a + count;
-        k = class;
-    }
-}
-
-// A pool whose first slots are live.
-fn packed(capacity: u64, live: u64) -> Pool
-    ensures { result ≡ packed_in capacity live }
-{
-    Pool {
-        capacity,
-        extent: live,
-        root: 0,
-        live,
+        at = at + 20 + count as usize * FRAME_LENGTH;
+        a += count;
     }
 }
 
 // The fresh tables that hold the file's runs, and the head over them.
-fn build(
-    head: Head,
-    elems: &mut [u64],
-    shared: &mut [u64],
-    file: &[u8],
-    runs: u64,
-    frames: u64,
-) -> Head
-    requires { Buildable (state_of head elems.old shared.old) file.now runs frames }
+fn build(head: Head, elems: &mut [u64], shared: &mut [u64], file: &[u8], counts: Held) -> Head
+    requires { Buildable (state_of head elems.old shared.old) file.now counts.runs counts.frames }
     ensures { state_of result elems.new shared.new ≡ read_tables head.elems.capacity head.shared.capacity (held file.now) }
 {
     let room = head.elems.capacity;
     let places = head.shared.capacity;
-    fill_runs(file, runs, elems, shared);
-    zero(elems, frames * FRAME, room * FRAME);
-    zero(shared, runs * HEADER, places * HEADER);
+    fill_runs(file, counts.runs, elems, shared);
+    zero(elems, counts.frames * FRAME, room * FRAME);
+    zero(shared, counts.runs * HEADER, places * HEADER);
     Head {
-        elems: packed(room, frames),
-        shared: packed(places, runs),
+        elems: Pool::packed(room, counts.frames),
+        shared: Pool::packed(places, counts.runs),
         generation: 1,
         undo: BLANK,
     }
 }
 
 // Ticket 11: fresh tables with the file's runs, whatever head and tables held; the head tells the capacities.
-pub fn read_file(head: Head, elems: &mut [u64], shared: &mut [u64], file: &[u8]) -> HeadDone
-    ensures { after_done result elems.new shared.new [] ≡ read_step (state_of head elems.old shared.old) file.now }
+pub fn read_file(
+    head: Head,
+    elems: &mut [u64],
+    shared: &mut [u64],
+    file: &[u8],
+) -> Result<Step<()>, Refusal>
+    ensures { after no_values head result elems.new shared.new [] ≡ read_step (state_of head elems.old shared.old) file.now }
 {
     if !shape::is_shaped(head, elems, shared) {
-        return refused(head, Refusal::Shape);
+        return Err(Refusal::Shape);
     }
     if file.len() < 8 {
-        return refused(head, Refusal::NoFile);
+        return Err(Refusal::NoFile);
     }
     if get4(file, 0) != VERSION {
-        return refused(head, Refusal::Version);
+        return Err(Refusal::Version);
     }
-    let Checked::Holds(runs, frames) = check_runs(file) else {
-        return refused(head, Refusal::NoFile);
-    };
-    if head.shared.capacity < runs {
-        return refused(head, Refusal::NoShared);
+    let counts = check_runs(file).ok_or(Refusal::NoFile)?;
+    if head.shared.capacity < counts.runs {
+        return Err(Refusal::NoShared);
     }
-    if head.elems.capacity < frames {
-        return refused(head, Refusal::NoElement);
+    if head.elems.capacity < counts.frames {
+        return Err(Refusal::NoElement);
     }
-    let next = build(head, elems, shared, file, runs, frames);
-    HeadDone {
-        head: next,
-        answer: Done::Done,
-        over: false,
-    }
+    let next = build(head, elems, shared, file, counts);
+    Ok(Step::plain(next, ()))
 }

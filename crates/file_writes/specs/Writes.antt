@@ -3,12 +3,17 @@ use Rattle.std.specs.Prelude.{ℕ, suc, ◌+◌, ◌*◌, ◌-◌, ◌≤◌, �
 use Rattle.std.proofs.lemmas.List.Edits.{sets}
 use Rattle.marks.specs.Marks.{marked}
 use Rattle.rules.specs.Notation.{along, flat, keep}
-use Rattle.rules.specs.Tables.{payload_of, next_of, bytes_of, State}
+use Rattle.rules.specs.Tables.{payload_of, next_of, bytes_of, State, state_of}
 use Rattle.rules.specs.Compress.{is_lowest}
 use Rattle.rules.specs.RunFile.{StoredRun, frame_bytes, body_bytes, entries, entry_bytes, first_body}
 use Rattle.rules.specs.WriteFile.{run_in, runs_in}
 use Rattle.rules.specs.Calls.{Ready}
 use Rattle.rules.proofs.Laws.Order.{Led}
+use Rattle.file_writes.specs.declared.Study.{Study}
+
+-- the state that is written
+abbrev pub state : Study → State
+state s = state_of s.head s.elems.now s.shared.now
 
 -- a frame's bytes, and those of `n` frames along next from `x`
 abbrev pub stored_as : (payload size : ℕ) → List ℕ

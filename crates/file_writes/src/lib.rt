@@ -11,7 +11,7 @@ ghost use Rattle.rules.specs.Calls.{Ready, step};
 ghost use Rattle.rules.specs.Answers.{one_value, leaves, said};
 ghost use Rattle.rules.proofs.Laws.Safe.{LiveSlot};
 ghost use Rattle.slots.specs.Asked.{Along};
-ghost use Rattle.file_writes.specs.Writes.{stored_as, frames_along, bodies_of, entries_of, Marks, Begins, Scans, FitsAll, Filled};
+ghost use Rattle.file_writes.specs.Writes.{state, stored_as, frames_along, bodies_of, entries_of, Marks, Begins, Scans, FitsAll, Filled};
 
 use littles::{FRAME_LENGTH, VERSION, put4, put8};
 use rules::{
@@ -19,21 +19,12 @@ use rules::{
 };
 use slots::get;
 
-// Whether the slot after `i` others begins a run: it is live, and no lower one had its class, which is met then.
-fn begins(head: Head, elems: &[u64], shared: &[u64], seen: &mut [u64], i: u64) -> bool
-    requires { Scans (state_of head elems.now shared.now) i seen.old }
-    ensures { Begins (state_of head elems.now shared.now) i result seen.new }
-{
-    let x = i + 1;
-    if get(elems, FRAME, GENERATION, x) == 0 {
-        return false;
-    }
-    let class = get(elems, FRAME, CLASS, x);
-    if marks::is_marked(seen, class - 1) {
-        return false;
-    }
-    marks::mark(seen, class - 1);
-    true
+// What is written: head and tables.
+#[derive(Clone, Copy)]
+struct Study<'a> {
+    head: Head,
+    elems: &'a [u64],
+    shared: &'a [u64],
 }
 
 // A frame's bytes at a place.
@@ -62,103 +53,103 @@ fn write_frames(elems: &[u64], n: u64, x: u64, out: &mut [u8], place: usize) -> 
     at
 }
 
-// A run's body at the start of what is lent; the answer is its length.
-fn write_body(head: Head, elems: &[u64], shared: &[u64], x: u64, out: &mut [u8]) -> usize
-    requires { Ready (state_of head elems.now shared.now) × LiveSlot (state_of head elems.now shared.now) x × (body_length 1 (run_in (state_of head elems.now shared.now) x) ≤ length out.old) }
-    ensures { (result ≡ body_length 1 (run_in (state_of head elems.now shared.now) x)) × (out.new ≡ sets out.old 0 (body_bytes 1 (run_in (state_of head elems.now shared.now) x))) }
-{
-    let class = get(elems, FRAME, CLASS, x);
-    let count = get(shared, HEADER, COUNT, class);
-    let value = get(shared, HEADER, VALUE, class);
-    let total = get(shared, HEADER, TOTAL, class);
-    put8(out, 0, value);
-    put8(out, 8, total);
-    put4(out, 16, count);
-    write_frames(elems, count, x, out, 20)
-}
+impl Study<'_> {
+    // Whether the slot after `i` others begins a run: it is live, and no lower one had its class, which is met then.
+    fn begins(&self, seen: &mut [u64], i: u64) -> bool
+        requires { Scans (state self.now) i seen.old }
+        ensures { Begins (state self.now) i result seen.new }
+    {
+        let x = i + 1;
+        if get(self.elems, FRAME, GENERATION, x) == 0 {
+            return false;
+        }
+        let class = get(self.elems, FRAME, CLASS, x);
+        let place = class - 1;
+        if marks::is_marked(seen, place) {
+            return false;
+        }
+        marks::mark(seen, place);
+        true
+    }
 
-// The length of a run's body, by its header's count.
-fn body_length(head: Head, elems: &[u64], shared: &[u64], x: u64) -> u64
-    requires { Ready (state_of head elems.now shared.now) × LiveSlot (state_of head elems.now shared.now) x }
-    ensures { result ≡ body_length 1 (run_in (state_of head elems.now shared.now) x) }
-{
-    let class = get(elems, FRAME, CLASS, x);
-    let count = get(shared, HEADER, COUNT, class);
-    20 + count * FRAME_LENGTH as u64
-}
+    // A run's body at the start of what is lent; the answer is its length.
+    fn write_body(&self, x: u64, out: &mut [u8]) -> usize
+        requires { Ready (state self.now) × LiveSlot (state self.now) x × (body_length 1 (run_in (state self.now) x) ≤ length out.old) }
+        ensures { (result ≡ body_length 1 (run_in (state self.now) x)) × (out.new ≡ sets out.old 0 (body_bytes 1 (run_in (state self.now) x))) }
+    {
+        let class = get(self.elems, FRAME, CLASS, x);
+        let count = get(self.shared, HEADER, COUNT, class);
+        let value = get(self.shared, HEADER, VALUE, class);
+        let total = get(self.shared, HEADER, TOTAL, class);
+        put8(out, 0, value);
+        put8(out, 8, total);
+        put4(out, 16, count);
+        write_frames(self.elems, count, x, out, 20)
+    }
 
-// The contents: an entry for each run, the bodies beginning at `first`.
-// Kept as two scans: a closure that writes the lent bytes would hand no fact of them out, and the contents come first.
-fn write_contents(
-    head: Head,
-    elems: &[u64],
-    shared: &[u64],
-    seen: &mut [u64],
-    out: &mut [u8],
-    first: u64,
-)
-    requires { Ready (state_of head elems.now shared.now) × Marks (state_of head elems.now shared.now) 0 seen.old × FitsAll (state_of head elems.now shared.now) first out.old }
-    ensures { out.new ≡ sets out.old 8 (entries_of first (runs_in (state_of head elems.now shared.now))) }
-{
-    let mut entry: usize = 8;
-    let mut at = first;
-    for i in 0..head.elems.extent {
-        if begins(head, elems, shared, seen, i) {
-            let long = body_length(head, elems, shared, i + 1);
-            put4(out, entry, at);
-            put4(out, entry + 4, long);
-            at += long;
-            entry += 8;
+    // The length of a run's body, by its header's count.
+    fn body_length(&self, x: u64) -> u64
+        requires { Ready (state self.now) × LiveSlot (state self.now) x }
+        ensures { result ≡ body_length 1 (run_in (state self.now) x) }
+    {
+        let class = get(self.elems, FRAME, CLASS, x);
+        let count = get(self.shared, HEADER, COUNT, class);
+        20 + count * FRAME_LENGTH as u64
+    }
+
+    // The contents: an entry for each run, the bodies beginning at `first`.
+    // Kept as two scans: a closure that writes the lent bytes would hand no fact of them out, and the contents come first.
+    fn write_contents(&self, seen: &mut [u64], out: &mut [u8], first: u64)
+        requires { Ready (state self.now) × Marks (state self.now) 0 seen.old × FitsAll (state self.now) first out.old }
+        ensures { out.new ≡ sets out.old 8 (entries_of first (runs_in (state self.now))) }
+    {
+        let mut entry: usize = 8;
+        let mut at = first;
+        for i in 0..self.head.elems.extent {
+            if self.begins(seen, i) {
+                let long = self.body_length(i + 1);
+                put4(out, entry, at);
+                put4(out, entry + 4, long);
+                at += long;
+                entry += 8;
+            }
         }
     }
-}
 
-// The bodies: each is written at the start of what is left of the lent bytes.
-fn write_bodies(
-    head: Head,
-    elems: &[u64],
-    shared: &[u64],
-    seen: &mut [u64],
-    out: &mut [u8],
-    first: usize,
-)
-    requires { Ready (state_of head elems.now shared.now) × Marks (state_of head elems.now shared.now) 0 seen.old × FitsAll (state_of head elems.now shared.now) first out.old }
-    ensures { out.new ≡ sets out.old first (bodies_of (runs_in (state_of head elems.now shared.now))) }
-{
-    let mut at = first;
-    for i in 0..head.elems.extent {
-        if begins(head, elems, shared, seen, i) {
-            at += write_body(head, elems, shared, i + 1, &mut out[at..]);
+    // The bodies: each is written at the start of what is left of the lent bytes.
+    fn write_bodies(&self, seen: &mut [u64], out: &mut [u8], first: usize)
+        requires { Ready (state self.now) × Marks (state self.now) 0 seen.old × FitsAll (state self.now) first out.old }
+        ensures { out.new ≡ sets out.old first (bodies_of (runs_in (state self.now))) }
+    {
+        let mut at = first;
+        for i in 0..self.head.elems.extent {
+            if self.begins(seen, i) {
+                at += self.write_body(i + 1, &mut out[at..]);
+            }
         }
     }
-}
 
-// Contents and bodies, with a set of so many words. Each scan begins with an empty set.
-fn write_with<const WORDS: usize>(
-    head: Head,
-    elems: &[u64],
-    shared: &[u64],
-    out: &mut [u8],
-    first: usize,
-)
-    requires { Ready (state_of head elems.now shared.now) × FitsAll (state_of head elems.now shared.now) first out.old × (head.shared.extent ≤ WORDS * 64) × (WORDS ≤ 1024) }
-    ensures { Filled (state_of head elems.now shared.now) first out.old out.new }
-{
-    let mut seen: [u64; WORDS] = [0; WORDS];
-    write_contents(head, elems, shared, &mut seen, out, first as u64);
-    seen = [0; WORDS];
-    write_bodies(head, elems, shared, &mut seen, out, first);
-}
+    // Contents and bodies, with a set of so many words. Each scan begins with an empty set.
+    fn write_with<const WORDS: usize>(&self, out: &mut [u8], first: usize)
+        requires { Ready (state self.now) × FitsAll (state self.now) first out.old × (self.now.head.shared.extent ≤ WORDS * 64) × (WORDS ≤ 1024) }
+        ensures { Filled (state self.now) first out.old out.new }
+    {
+        let mut seen: [u64; WORDS] = [0; WORDS];
+        self.write_contents(&mut seen, out, first as u64);
+        seen = [0; WORDS];
+        self.write_bodies(&mut seen, out, first);
+    }
 
-// With a set as large as the shared extent needs: emptying the larger one would cost a small state more than the rest.
-fn write_runs(head: Head, elems: &[u64], shared: &[u64], out: &mut [u8], first: usize)
-    requires { Ready (state_of head elems.now shared.now) × FitsAll (state_of head elems.now shared.now) first out.old }
-    ensures { Filled (state_of head elems.now shared.now) first out.old out.new }
-{
-    if head.shared.extent <= 1024 {
-        write_with::<16>(head, elems, shared, out, first);
-    } else {
-        write_with::<1024>(head, elems, shared, out, first);
+    // With a set as large as the shared extent needs: emptying the larger one would cost a small state more than the rest.
+    fn write_runs(&self, out: &mut [u8], first: usize)
+        requires { Ready (state self.now) × FitsAll (state self.now) first out.old }
+        ensures { Filled (state self.now) first out.old out.new }
+    {
+        if self.head.shared.extent <= 1024 {
+            self.write_with::<16>(out, first);
+        } else {
+            self.write_with::<1024>(out, first);
+        }
     }
 }
 
@@ -181,6 +172,11 @@ pub fn write_file(
     put4(file, 0, VERSION);
     put4(file, 4, runs);
     let first = 8 + runs as usize * 8;
-    write_runs(head, elems, shared, file, first);
+    let study = Study {
+        head,
+        elems,
+        shared,
+    };
+    study.write_runs(file, first);
     Ok(long)
 }

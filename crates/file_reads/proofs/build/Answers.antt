@@ -5,8 +5,8 @@ use Rattle.file_reads.proofs.build.Goals as goal
 pub fill_runs-requires : goal.fill_runs-requires
 fill_runs-requires c = (fillable _ _ _ _ c.requires, c.requires.runs_are)
 
-pub overflow_mul-frames : goal.overflow_mul-frames
-overflow_mul-frames c = record { fits = omega (arith, c.requires.elems, (room _ _ _ _ c.requires).elems-most) }
+pub overflow_mul-counts : goal.overflow_mul-counts
+overflow_mul-counts c = record { fits = omega (arith, c.requires.elems, (room _ _ _ _ c.requires).elems-most) }
 
 pub overflow_mul-room : goal.overflow_mul-room
 overflow_mul-room c = record { fits = omega (arith, (room _ _ _ _ c.requires).elems-most) }

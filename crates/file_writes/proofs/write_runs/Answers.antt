@@ -1,6 +1,0 @@
-use Rattle.file_writes.proofs.Whole.{classes-small}
-use native.Mathlib.Omega.{arith}
-use Rattle.file_writes.proofs.write_runs.Goals as goal
-
-pub write_with-requires-else-head-le1024 : goal.write_with-requires-else-head-le1024
-write_with-requires-else-head-le1024 c = (c.requires.0, c.requires.1, classes-small _ c.requires.0, omega arith)
