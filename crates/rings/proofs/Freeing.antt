@@ -109,10 +109,13 @@ module _ (st : State) (n x class : ℕ) (emptied : Head) (e : List ℕ) (ring : 
   pub emptied_shared : emptied.shared ≡ st.head.shared
   emptied_shared = ap (λ (t : State). t.head.shared) ring ∙ (free_ring-head n st x).0
 
+  pub emptied_generation : emptied.generation ≡ st.head.generation
+  emptied_generation = ap (λ (t : State). t.head.generation) ring ∙ (free_ring-head n st x).1
+
   module _ (freed : Head) (s : List ℕ) (header : state_of freed e s ≡ free_shared (state_of emptied e st.shared) class) where
     pub freed-generation : freed.generation ≡ st.head.generation
     unfolding free_shared
-    freed-generation = ap (λ (t : State). t.head.generation) header ∙ ap (λ (t : State). t.head.generation) ring ∙ (free_ring-head n st x).1
+    freed-generation = ap (λ (t : State). t.head.generation) header ∙ emptied_generation
 
     -- all steps of the call, one after another
     pub ring-removed : (k : Key) (value : ℕ) (r : Step ⊤) → found st k ≡ Ok x
