@@ -23,7 +23,7 @@ pub rowing_start : (w : ℕ) (t : List ℕ) (b : ℕ) (from : List ℕ) (s : ℕ
 rowing_start w t b from s = record { long = refl; there = λ f h. absurd (omega arith); still = λ f u h k. refl }
 
 module _ (w : ℕ) (t₀ : List ℕ) (b : ℕ) (A : Within w t₀ b) (from : List ℕ) (s : ℕ) (t : List ℕ) (i : ℕ) (R : Rowing w t₀ b from s t i) (l : i < w) where
-  pub rowing_to : Within w t b
+  rowing_to : Within w t b
   rowing_to = record { some = A.some; inside = rw R.long A.inside }
 
   pub rowing_next : (t' : List ℕ) (v : ℕ) → v ≡ cell w from i s → t' ≡ put w t b i v → Rowing w t₀ b from s t' (i + 1)

@@ -8,7 +8,7 @@ use native.Mathlib.Omega.{arith}
 use native.Mathlib.Decide.{ℕ_discrete, dec_lt}
 use lib.ListN.{length, get_or, length-map, get_or-eq_default}
 use Rattle.rules.specs.declared.Head.{Head}
-use Rattle.rules.specs.Tables.{most_slots, state_of, frame_width, header_width, frame_at, cell, class_of, next_free_of, State}
+use Rattle.rules.specs.Tables.{most_slots, frame_width, header_width, frame_at, cell, class_of, next_free_of, State}
 use Rattle.rules.specs.Calls.{Ready}
 use Rattle.rules.specs.Compress.{lowest_slots, canonical_frames, canonical_classes, place_of, moved_frame, moved_header, renumbered_in}
 use Rattle.rules.proofs.Laws.Lists.{all-at}
@@ -20,7 +20,7 @@ use Rattle.rules.proofs.Laws.Safe.{working}
 use Rattle.rules.proofs.Laws.Places.{in_at, place_at, upto, upto_is, cells_ext}
 use Rattle.rules.proofs.Laws.Order.{Listed, frames_listed, classes_listed}
 use Rattle.rules.proofs.Laws.Compress.{listed_live, live-fits, frame_column, header_column, renumbered-elems, renumbered-shared}
-use Rattle.rules.proofs.Laws.Blocks.{ahead, ahead-next, ahead_le, ahead-some, block_of, runs_of, frames-flat, runs-some, size_of, class_in}
+use Rattle.rules.proofs.Laws.Blocks.{ahead, ahead-next, ahead_le, block_of, runs_of, frames-flat, size_of, class_in}
 use Rattle.copies.specs.Parts.{Zeroed}
 use Rattle.gather.specs.Elements.{carried_frame, Moved, Gathered}
 use Rattle.place.specs.Headers.{begins, named}
@@ -115,9 +115,6 @@ module _ (st : State) (R : Ready st) (g : ℕ) (e₁ : List ℕ) (G : Rows st g 
 
   class_range : (k : ℕ) → k < length (runs_of st) → (1 ≤ get_or (canonical_classes st) k 0) × (get_or (canonical_classes st) k 0 ≤ st.head.shared.extent)
   class_range k l = live_in W.shared (get_or cs k 0) (all-at (λ c. v.count c ≢ 0) (get_or cs k 0) cs CL.live (in_at cs k (in_class k l)))
-
-  before-all : (k : ℕ) → k ≤ length (runs_of st) → k ≤ ahead (runs_of st) k
-  before-all k l = ahead-some rs k (runs-some st W) l
 
   layable' : (t : List ℕ) → st.head.shared.live * header_width ≤ length t → Layable (length (runs_of st)) e₁ t st.shared
   layable' t room = record {
@@ -217,9 +214,6 @@ gathered_fits st R g sc₀ e sc n room G =
 -- ---- the whole
 pub rooms : {e t : List ℕ} {h : Head} {fr hd : List ℕ} → Movable e t h fr hd → (h.elems.live * frame_width ≤ length e) × (h.shared.live * header_width ≤ length t)
 rooms M = (omega (arith, M.long, M.room), omega (arith, M.shared_long, M.shared_room))
-
-pub runs-small : {e t : List ℕ} {h : Head} {fr hd : List ℕ} → Movable e t h fr hd → h.shared.live ≤ most_slots
-runs-small {e} {t} {h} {fr} {hd} M = omega (arith, live-fits (working (state_of h fr hd) M.ready).shared, (shaped_of (state_of h fr hd) M.ready.shape).shared.small)
 
 pub landed : (e t : List ℕ) (st : State) (R : Ready st) (g n : ℕ) (fr sc e₁ e₂ t₁ t₂ : List ℕ) → st.head.elems.live * frame_width ≤ length e → Gathered st e g fr sc n → (Z : Zeroed sc (n * frame_width) (length sc) e₁)
     → Laid st.head.shared.live e₁ t st.shared e₂ t₁ → Zeroed t₁ (st.head.shared.live * header_width) (length t₁) t₂ → Landed e t st g e₂ t₂ fr

@@ -1,6 +1,12 @@
+use Rattle.ranks.proofs.Packing.{shifting_start, shifting_next}
 use native.Mathlib.Omega.{arith}
-use Rattle.ranks.proofs.Packing.{shifted_by}
 use Rattle.ranks.proofs.shift.Goals as goal
 
+pub loop-field-init : goal.loop-field-init
+loop-field-init c = shifting_start _ _ _ _
+
+pub loop-field-preserved : goal.loop-field-preserved
+loop-field-preserved c = shifting_next _ _ _ _ c.requires.1 _ _ c.loop-field.invariant c.loop-field-test.true _ _ c.get-value.ensures c.put.ensures
+
 pub returns : goal.returns
-returns c = let E = c.copy_within.ensures.by_index in shifted_by _ _ _ _ _ _ c.requires.0 c.requires.1 (omega arith) c.copy_within.ensures.len E.0 E.1 E.2
+returns c = let R = c.loop-field.invariant in record { long = R.long; there = λ f h. R.there f (omega arith); still = R.still }
