@@ -5,68 +5,37 @@ use mathlib.Core.List.{List}
 use Prim.Native.Nat.{ℕ, zero, suc, ◌+◌, ◌*◌, ◌-◌, ◌≤◌, ◌<◌}
 use native.Mathlib.Nat.{mul-le-mul_right}
 use native.Mathlib.Omega.{arith}
-use native.Mathlib.Decide.{dec_lt}
-use lib.ListN.{length, get_or, take, drop}
-use borrow.Rule.Slice.PartMut.{put_mid}
-use Rattle.std.proofs.Common.{rules}
-use Rattle.std.proofs.lemmas.List.{places}
+use native.Mathlib.Decide.{ℕ_discrete, dec_lt}
+use lib.ListN.{length, get_or}
 use Rattle.rules.specs.Tables.{cell, put}
 use Rattle.rules.proofs.Laws.Columns.{put_elsewhere, upd_same, length-put, put-at, put_off, cell-none}
 use Rattle.slots.specs.Asked.{Within}
 use Rattle.copies.specs.Parts.{Zeroed}
-use Rattle.clones.specs.Clones.{Rowed, CloneOne, free}
+use Rattle.clones.specs.Clones.{CloneOne, free}
 
--- ---- a part of a table written over
-over_at : (a w : ℕ) (t r : List ℕ) (f : ℕ) → a + w ≤ length t → length r ≡ w → f < w → get_or (put_mid a w t r) (a + f) 0 ≡ get_or r f 0
-over_at a w t r f h e l = search (rules, places)
+-- ---- the loop of `copy_row`, with `i` fields copied
+pub record Rowing (w : ℕ) (t₀ : List ℕ) (b : ℕ) (from : List ℕ) (s : ℕ) (t : List ℕ) (i : ℕ) : Type 0 where
+  pub long : length t ≡ length t₀
+  pub there : (f : ℕ) → f < i → cell w t f b ≡ cell w from f s
+  pub still : (f u : ℕ) → f < w → u ≢ b → cell w t f u ≡ cell w t₀ f u
 
-over_below : (a w : ℕ) (t r : List ℕ) (j : ℕ) → a + w ≤ length t → length r ≡ w → j < a → get_or (put_mid a w t r) j 0 ≡ get_or t j 0
-over_below a w t r j h e l = search (rules, places)
+pub rowing_start : (w : ℕ) (t : List ℕ) (b : ℕ) (from : List ℕ) (s : ℕ) → Rowing w t b from s t 0
+rowing_start w t b from s = record { long = refl; there = λ f h. absurd (omega arith); still = λ f u h k. refl }
 
-over_past : (a w : ℕ) (t r : List ℕ) (j : ℕ) → a + w ≤ length t → length r ≡ w → a + w ≤ j → get_or (put_mid a w t r) j 0 ≡ get_or t j 0
-over_past a w t r j h e l = search (rules, places)
+module _ (w : ℕ) (t₀ : List ℕ) (b : ℕ) (A : Within w t₀ b) (from : List ℕ) (s : ℕ) (t : List ℕ) (i : ℕ) (R : Rowing w t₀ b from s t i) (l : i < w) where
+  pub rowing_to : Within w t b
+  rowing_to = record { some = A.some; inside = rw R.long A.inside }
 
-over_long : (a w : ℕ) (t r : List ℕ) → a + w ≤ length t → length r ≡ w → length (put_mid a w t r) ≡ length t
-over_long a w t r h e = search (rules, places)
-
-part_at : (i w : ℕ) (from : List ℕ) (f : ℕ) → f < w → get_or (take w (drop i from)) f 0 ≡ get_or from (i + f) 0
-part_at i w from f l = search (rules, places)
-
-part_long : (i w : ℕ) (from : List ℕ) → i + w ≤ length from → length (take w (drop i from)) ≡ w
-part_long i w from h = search (rules, places)
-
-pub row_over : (w : ℕ) (t : List ℕ) (b : ℕ) (from : List ℕ) (s k m : ℕ) (r : List ℕ) → Within w t b → Within w from s → k ≡ w → m ≡ w → r ≡ take m (drop ((s - 1) * w) from)
-    → Rowed w t b from s (put_mid ((b - 1) * w) k t r)
-unfolding cell
-row_over w t zero from s k m r A B x y q = absurd (omega (arith, A.some))
-row_over w t (suc v) from zero k m r A B x y q = absurd (omega (arith, B.some))
-row_over w t (suc v) from (suc u) k m r A B x y q = rw (x, q, y, d, e) (record { long = over_long (v * w) w t part fits size; there = there; still = still })
-  where
-    d : suc v - 1 ≡ v
-    d = omega arith
-
-    e : suc u - 1 ≡ u
-    e = omega arith
-
-    part : List ℕ
-    part = take w (drop (u * w) from)
-
-    fits : v * w + w ≤ length t
-    fits = omega (arith, A.inside)
-
-    size : length part ≡ w
-    size = part_long (u * w) w from (omega (arith, B.inside))
-
-    there : (f : ℕ) → f < w → get_or (put_mid (v * w) w t part) (v * w + f) 0 ≡ get_or from (u * w + f) 0
-    there f h = over_at (v * w) w t part f fits size h ∙ part_at (u * w) w from f h
-
-    still : (f s : ℕ) → f < w → s ≢ suc v → cell w (put_mid (v * w) w t part) f s ≡ cell w t f s
-    still f zero h n = refl
-    still f (suc s) h n = go (dec_lt s v)
-      where
-        go : Dec (s < v) → get_or (put_mid (v * w) w t part) (s * w + f) 0 ≡ get_or t (s * w + f) 0
-        go (yes l) = over_below (v * w) w t part (s * w + f) fits size (omega (arith, mul-le-mul_right w l))
-        go (no l) = let k : suc v ≤ s = omega arith in over_past (v * w) w t part (s * w + f) fits size (omega (arith, mul-le-mul_right w k))
+  pub rowing_next : (t' : List ℕ) (v : ℕ) → v ≡ cell w from i s → t' ≡ put w t b i v → Rowing w t₀ b from s t' (i + 1)
+  rowing_next t' v e q = rw q (record {
+    long = length-put w t b i v ∙ R.long;
+    there = λ f h. there f h (ℕ_discrete f i);
+    still = λ f u h n. put_elsewhere w t b i v f u l h rowing_to.some rowing_to.inside n ∙ R.still f u h n;
+  })
+    where
+      there : (f : ℕ) → f < i + 1 → Dec (f ≡ i) → cell w (put w t b i v) f b ≡ cell w from f s
+      there f h (yes z) = rw (z, put-at w t b i v l rowing_to.some rowing_to.inside) (upd_same (cell w t i) b v ∙ e)
+      there f h (no z) = ap (λ (col : ℕ → ℕ). col b) (put_off w t b i v f l (omega arith) z) ∙ R.there f (omega arith)
 
 -- ---- a part zeroed, by slots
 pub cell_of : (w : ℕ) (t t' : List ℕ) (f u : ℕ) → get_or t' (u * w + f) 0 ≡ get_or t (u * w + f) 0 → cell w t' f (suc u) ≡ cell w t f (suc u)

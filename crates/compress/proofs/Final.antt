@@ -1,28 +1,28 @@
 -- The element side leaves what the shared side rests on; and both together leave what the rule says.
 use mathlib.Core.Path.{◌≡◌, refl, sym, ap, ◌∙◌}
 use mathlib.Core.Logic.{◌≢◌}
-use mathlib.Core.List.{List, [], map}
+use mathlib.Core.List.{List}
 use Prim.Native.Nat.{ℕ, zero, suc, ◌+◌, ◌*◌, ◌-◌, ◌≤◌, ◌<◌}
 use native.Mathlib.Nat.{mul-le-mul_right}
 use native.Mathlib.Omega.{arith}
 use native.Mathlib.Decide.{ℕ_discrete}
 use lib.ListN.{length, get_or, length-map}
-use Rattle.rules.specs.Tables.{most_slots, frame_width, header_width, frame_at, header_at, cell, class_of, count_of, next_free_of, State}
+use Rattle.rules.specs.Tables.{frame_width, header_width, frame_at, cell, class_of, next_free_of, State}
 use Rattle.rules.specs.Calls.{Ready}
 use Rattle.rules.specs.Compress.{lowest_slots, canonical_frames, canonical_classes, place_of, moved_frame, moved_header, renumbered}
-use Rattle.rules.proofs.Laws.Lists.{All, all-at}
+use Rattle.rules.proofs.Laws.Lists.{all-at}
 use Rattle.rules.proofs.Laws.Columns.{cell-none}
 use Rattle.rules.proofs.Laws.Pools.{live_in}
 use Rattle.rules.proofs.Laws.Count.{lives_le}
 use Rattle.rules.proofs.Laws.Working.{View, view, Working}
 use Rattle.rules.proofs.Laws.Soundness.{Shaped, shaped_of}
 use Rattle.rules.proofs.Laws.Safe.{working}
-use Rattle.rules.proofs.Laws.Places.{in_at, place_at, upto, upto_is, cells_ext, length-padded}
+use Rattle.rules.proofs.Laws.Places.{in_at, place_at, upto, upto_is, cells_ext}
 use Rattle.rules.proofs.Laws.Order.{Listed, frames_listed, classes_listed}
 use Rattle.rules.proofs.Laws.Compress.{listed_live, live-fits, frame_column, header_column, renumbered_lengths}
-use Rattle.rules.proofs.Laws.Blocks.{ahead, ahead-next, ahead-all, ahead_le, ahead-some, Block, block_of, runs_of, frames-flat, runs-some, size_of, class_in}
-use Rattle.gather.specs.Elements.{carried_frame, Moved, Regrouped}
-use Rattle.place.specs.Headers.{begins, named, Blocks, Placeable, Placed}
+use Rattle.rules.proofs.Laws.Blocks.{ahead, ahead-next, ahead_le, ahead-some, block_of, runs_of, frames-flat, runs-some, size_of, class_in}
+use Rattle.gather.specs.Elements.{carried_frame, Regrouped}
+use Rattle.place.specs.Headers.{begins, named, Placeable, Placed}
 use Rattle.gather.proofs.Scan.{order_fits}
 
 cell-past : (w : ℕ) (t : List ℕ) (f n u : ℕ) → n ≤ u → ((j : ℕ) → n * w ≤ j → get_or t j 0 ≡ 0) → cell w t f (suc u) ≡ 0

@@ -60,13 +60,14 @@ pub fn copy_ring(elems: &mut [u64], scratch: &mut [u64], x: u64, a: u64, n: u64,
     }
 }
 
-// The first `n` numbers of `t` become those of `s`.
+// The first `n` numbers of `t` become those of `s`. Kept as a loop: copy_from_slice would call memmove, and the archive calls no C function but memset (docs/TRUST.md).
 pub fn paste(t: &mut [u64], s: &[u64], n: u64)
     requires { (n ≤ length t.old) × (n ≤ length s.now) }
     ensures { Pasted t.old s.now n t.new }
 {
-    let many = n as usize;
-    t[..many].copy_from_slice(&s[..many]);
+    for i in 0..n as usize {
+        t[i] = s[i];
+    }
 }
 
 // The numbers from `start` to before `end` become 0.

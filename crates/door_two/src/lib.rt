@@ -10,19 +10,14 @@ ghost use Rattle.rules.specs.TwoTables.{after_target, after_both};
 ghost use Rattle.rules.specs.Copy.{AtCopy};
 ghost use Rattle.rules.specs.Move.{AtMove};
 
-use clones::refused;
-use moves::stays;
-use rules::{Head, HeadDone, HeadsDone, Refusal};
+use rules::{Head, Moved, Refusal, Step};
 
 // Refusals, 2: what the head remembers is part of soundness (Ticket 7).
 fn is_whole(head: Head, elems: &[u64], shared: &[u64]) -> bool
     requires { shaped (state_of head elems.now shared.now) ≡ true }
     ensures { Is (Whole (state_of head elems.now shared.now)) result }
 {
-    if !sound::is_sound(head, elems, shared) {
-        return false;
-    }
-    undos::remembers(head, elems, shared)
+    sound::is_sound(head, elems, shared) && undos::remembers(head, elems, shared)
 }
 
 // Ticket 10: copy a study to review tables; the target may hold anything of fitting shape.
@@ -33,17 +28,17 @@ pub fn clone_from(
     source: Head,
     frames: &[u64],
     headers: &[u64],
-) -> HeadDone
-    ensures { AtCopy (state_of head elems.old shared.old) (state_of source frames.now headers.now) (after_target result elems.new shared.new (state_of source frames.now headers.now)) }
+) -> Result<Step<()>, Refusal>
+    ensures { AtCopy (state_of head elems.old shared.old) (state_of source frames.now headers.now) (after_target head result elems.new shared.new (state_of source frames.now headers.now)) }
 {
     if !shape::is_shaped(source, frames, headers) {
-        return refused(head, Refusal::Shape);
+        return Err(Refusal::Shape);
     }
     if !shape::is_shaped(head, elems, shared) {
-        return refused(head, Refusal::Shape);
+        return Err(Refusal::Shape);
     }
     if !is_whole(source, frames, headers) {
-        return refused(head, Refusal::Unsound);
+        return Err(Refusal::Unsound);
     }
     clones::clone_from(head, elems, shared, source, frames, headers)
 }
@@ -57,20 +52,17 @@ pub fn transfer_canonical(
     source: Head,
     frames: &mut [u64],
     headers: &mut [u64],
-) -> HeadsDone
-    ensures { AtMove (state_of head elems.old shared.old) (state_of source frames.old headers.old) generation (after_both result elems.new shared.new frames.new headers.new) }
+) -> Result<Moved, Refusal>
+    ensures { AtMove (state_of head elems.old shared.old) (state_of source frames.old headers.old) generation (after_both head source result elems.new shared.new frames.new headers.new) }
 {
     if !shape::is_shaped(source, frames, headers) {
-        return stays(head, source, Refusal::Shape);
+        return Err(Refusal::Shape);
     }
     if !shape::is_shaped(head, elems, shared) {
-        return stays(head, source, Refusal::Shape);
+        return Err(Refusal::Shape);
     }
-    if !is_whole(source, frames, headers) {
-        return stays(head, source, Refusal::Unsound);
-    }
-    if !is_whole(head, elems, shared) {
-        return stays(head, source, Refusal::Unsound);
+    if !is_whole(source, frames, headers) || !is_whole(head, elems, shared) {
+        return Err(Refusal::Unsound);
     }
     moves::transfer_canonical(head, elems, shared, generation, source, frames, headers)
 }

@@ -1,13 +1,13 @@
 // Whole tables at the host's door: the gate, then the call at the inner door. Nothing is required of the caller.
-#![tactic(auto)]
+#![tactic(auto, using(gate::proofs::Gates::past))]
 
-ghost use Rattle.std.specs.Prelude.{◌≡◌, false, []};
+ghost use Rattle.std.specs.Prelude.{◌≡◌, []};
 ghost use Rattle.rules.specs.Tables.{state_of};
-ghost use Rattle.rules.specs.Answers.{after_done, after_number};
+ghost use Rattle.rules.specs.Answers.{no_values, one_value, after};
 ghost use Rattle.rules.specs.Calls.{AtDoor, fresh_step, clear, compress, compress_with};
 
 use gate::gate;
-use rules::{Done, Head, HeadDone, HeadNumber, Number};
+use rules::{Head, Refusal, Step};
 
 // Rules 2, fresh: it has no door but its own, and gives only 1.
 pub fn fresh(
@@ -16,24 +16,18 @@ pub fn fresh(
     headers: u64,
     elems: &mut [u64],
     shared: &mut [u64],
-) -> HeadDone
-    ensures { after_done result elems.new shared.new [] ≡ fresh_step (state_of head elems.old shared.old) frames headers }
+) -> Result<Step<()>, Refusal>
+    ensures { after no_values head result elems.new shared.new [] ≡ fresh_step (state_of head elems.old shared.old) frames headers }
 {
     wipes::fresh(head, frames, headers, elems, shared)
 }
 
 // Rules 12: clear.
-pub fn clear(head: Head, elems: &mut [u64], shared: &mut [u64]) -> HeadDone
-    ensures { AtDoor (state_of head elems.old shared.old) [] clear (after_done result elems.new shared.new []) }
+pub fn clear(head: Head, elems: &mut [u64], shared: &mut [u64]) -> Result<Step<()>, Refusal>
+    ensures { AtDoor (state_of head elems.old shared.old) [] clear (after no_values head result elems.new shared.new []) }
 {
-    match gate(head, elems, shared) {
-        Done::Refused(n) => HeadDone {
-            head,
-            answer: Done::Refused(n),
-            over: false,
-        },
-        Done::Done => wipes::clear(head, elems, shared),
-    }
+    gate(head, elems, shared)?;
+    wipes::clear(head, elems, shared)
 }
 
 // Rules 14: compress canonical.
@@ -43,17 +37,11 @@ pub fn compress_canonical(
     shared: &mut [u64],
     scratch: &mut [u64],
     reset: bool,
-) -> HeadDone
-    ensures { AtDoor (state_of head elems.old shared.old) scratch.old (compress reset) (after_done result elems.new shared.new scratch.new) }
+) -> Result<Step<()>, Refusal>
+    ensures { AtDoor (state_of head elems.old shared.old) scratch.old (compress reset) (after no_values head result elems.new shared.new scratch.new) }
 {
-    match gate(head, elems, shared) {
-        Done::Refused(n) => HeadDone {
-            head,
-            answer: Done::Refused(n),
-            over: false,
-        },
-        Done::Done => compress::compress_canonical(head, elems, shared, scratch, reset),
-    }
+    gate(head, elems, shared)?;
+    compress::compress_canonical(head, elems, shared, scratch, reset)
 }
 
 // Ticket 3: compress with the slot order kept, and the new keys told.
@@ -63,15 +51,9 @@ pub fn compress_with(
     shared: &mut [u64],
     pairs: &mut [u64],
     reset: bool,
-) -> HeadNumber
-    ensures { AtDoor (state_of head elems.old shared.old) pairs.old (compress_with reset) (after_number result elems.new shared.new pairs.new) }
+) -> Result<Step<u64>, Refusal>
+    ensures { AtDoor (state_of head elems.old shared.old) pairs.old (compress_with reset) (after one_value head result elems.new shared.new pairs.new) }
 {
-    match gate(head, elems, shared) {
-        Done::Refused(n) => HeadNumber {
-            head,
-            answer: Number::Refused(n),
-            over: false,
-        },
-        Done::Done => ordered::compress_with(head, elems, shared, pairs, reset),
-    }
+    gate(head, elems, shared)?;
+    ordered::compress_with(head, elems, shared, pairs, reset)
 }

@@ -2,20 +2,9 @@
 use Rattle.std.specs.Prelude.{ℕ, ◌*◌, ◌≡◌, List}
 use Rattle.std.proofs.lemmas.List.Edits.{sets}
 use Rattle.rules.specs.declared.Head.{Head}
-use Rattle.rules.specs.declared.Rest.{Rest}
-use Rattle.rules.specs.declared.Rest.TheVariants.{GoesOn, Last}
 use Rattle.rules.specs.Tables.{State, state_of, row}
 use Rattle.rules.specs.Runs.{removed}
 use Rattle.rules.specs.Drains.{record_width, drain_record, drain_records, drained}
-
--- Rules 10: what a record says of the run, as two numbers
-abbrev pub last_mark : Rest → ℕ
-last_mark GoesOn = 0
-last_mark (Last value) = 1
-
-abbrev pub last_value : Rest → ℕ
-last_value GoesOn = 0
-last_value (Last value) = value
 
 -- the frame in `x` is taken out, and its record stands at a place
 pub record Gone (st : State) (x : ℕ) (out : List ℕ) (place : ℕ) (next : Head) (e s out' : List ℕ) : Type 0 where

@@ -7,64 +7,32 @@ ghost use Rattle.rules.specs.Tables.{row, state_of};
 ghost use Rattle.rules.specs.Drains.{record_width, rest_fields};
 ghost use Rattle.rules.specs.Calls as calls;
 ghost use Rattle.rules.specs.Calls.{Ready, step};
-ghost use Rattle.rules.specs.Answers.{after_number};
-ghost use Rattle.slots.specs.Asked.{Within};
-ghost use Rattle.slots.specs.Asked.{OnLive};
+ghost use Rattle.rules.specs.Answers.{one_value, after};
+ghost use Rattle.slots.specs.Asked.{Within, OnLive};
 ghost use Rattle.drains.specs.Asked.{Drains};
-ghost use Rattle.drains.specs.Answered.{last_mark, last_value, Gone, Drained};
+ghost use Rattle.drains.specs.Answered.{Gone, Drained};
 
 use removes::remove_at;
-use rings::lists::size_at;
-use rules::{FRAME, Found, GENERATION, Head, HeadNumber, Key, NEXT, Number, Refusal, Rest};
+use rings::lists::{size_at, write_place};
+use rules::{FRAME, GENERATION, Head, Key, NEXT, Refusal, Removed, Rest, Step};
 
 // Numbers to a record (docs/LAYOUT.md); in the rules, record_width.
 pub const RECORD_WIDTH: u64 = 6;
 
-// What a record says of the run: 1 with the last frame, and the shared value then.
-fn last_mark(rest: Rest) -> u64
-    ensures { result ≡ last_mark rest }
-{
-    match rest {
-        Rest::GoesOn => 0,
-        Rest::Last(_) => 1,
-    }
-}
-
-fn last_value(rest: Rest) -> u64
-    ensures { result ≡ last_value rest }
-{
-    match rest {
-        Rest::GoesOn => 0,
-        Rest::Last(value) => value,
-    }
-}
-
-// 1 where the answer says overflow.
-fn over_mark(over: bool) -> u64
-    ensures { result ≡ (if over then 1 else 0) }
-{
-    if over { 1 } else { 0 }
-}
-
-// A record is written at a place, counted from 1.
-fn write_record(
-    out: &mut [u64],
-    place: u64,
-    slot: u64,
-    generation: u64,
-    payload: u64,
-    rest: Rest,
-    over: bool,
-)
+// A record is written at a place, counted from 1: of the run it says 1 with the last frame, and the shared value then.
+fn write_record(out: &mut [u64], place: u64, slot: u64, generation: u64, gone: Removed, over: bool)
     requires { Within record_width out.old place }
-    ensures { out.new ≡ row record_width out.old place (slot ∷ generation ∷ payload ∷ rest_fields rest ++ (if over then 1 else 0) ∷ []) }
+    ensures { out.new ≡ row record_width out.old place (slot ∷ generation ∷ gone.payload ∷ rest_fields gone.rest ++ (if over then 1 else 0) ∷ []) }
 {
-    slots::put(out, RECORD_WIDTH, place, 0, slot);
-    slots::put(out, RECORD_WIDTH, place, 1, generation);
-    slots::put(out, RECORD_WIDTH, place, 2, payload);
-    slots::put(out, RECORD_WIDTH, place, 3, last_mark(rest));
-    slots::put(out, RECORD_WIDTH, place, 4, last_value(rest));
-    slots::put(out, RECORD_WIDTH, place, 5, over_mark(over));
+    let (last, value) = match gone.rest {
+        Rest::GoesOn => (0, 0),
+        Rest::Last(was) => (1, was),
+    };
+    write_place(
+        out,
+        place,
+        [slot, generation, gone.payload, last, value, u64::from(over)],
+    );
 }
 
 // The frame in `x` is taken out, and its record written at a place.
@@ -81,8 +49,7 @@ fn drain_frame(
 {
     let generation = slots::get(elems, FRAME, GENERATION, x);
     let gone = remove_at(head, elems, shared, x);
-    let rest = gone.rest;
-    write_record(out, place, x, generation, gone.payload, rest, gone.over);
+    write_record(out, place, x, generation, gone.answer, gone.over);
     gone.head
 }
 
@@ -100,16 +67,11 @@ pub fn drain_run(
     ensures { Drained (state_of head elems.old shared.old) n x out.old from result elems.new shared.new out.new }
 {
     let mut next = head;
-    let mut left = n;
     let mut at = x;
-    let mut written = from;
-    while 0 < left {
+    for written in from..from + n {
         let after = slots::get(elems, FRAME, NEXT, at);
-        let place = written + 1;
-        next = drain_frame(next, elems, shared, at, out, place);
+        next = drain_frame(next, elems, shared, at, out, written + 1);
         at = after;
-        written = place;
-        left = left - 1;
     }
     next
 }
@@ -121,32 +83,15 @@ pub fn drain(
     shared: &mut [u64],
     key: Key,
     out: &mut [u64],
-) -> HeadNumber
+) -> Result<Step<u64>, Refusal>
     requires { Ready (state_of head elems.old shared.old) }
-    ensures { after_number result elems.new shared.new out.new ≡ step (state_of head elems.old shared.old) out.old (calls.drain key) }
+    ensures { after one_value head result elems.new shared.new out.new ≡ step (state_of head elems.old shared.old) out.old (calls.drain key) }
 {
-    let x = match slots::find(head, elems, key) {
-        Found::Live(x) => x,
-        Found::Dead(cause) => {
-            return HeadNumber {
-                head,
-                answer: Number::Refused(Refusal::Dead(cause)),
-                over: false,
-            };
-        }
-    };
+    let x = slots::find(head, elems, key)?;
     let size = size_at(head, elems, shared, x);
     if (out.len() as u64) < size * RECORD_WIDTH {
-        return HeadNumber {
-            head,
-            answer: Number::Refused(Refusal::Short),
-            over: false,
-        };
+        return Err(Refusal::Short);
     }
     let next = drain_run(head, elems, shared, size, x, out, 0);
-    HeadNumber {
-        head: next,
-        answer: Number::Is(size),
-        over: false,
-    }
+    Ok(Step::plain(next, size))
 }

@@ -40,15 +40,12 @@ unfolding cell
 cell_at t t' u f e = e
 
 -- the rows that were gathered fit both tables
-pub record Rows (st : State) (e sc : List ℕ) (n : ℕ) : Type 0 where
+pub record Rows (e sc : List ℕ) (n : ℕ) : Type 0 where
   pub few : n ≤ most_slots
   pub elems : n * frame_width ≤ length e
   pub scratch : n * frame_width ≤ length sc
-  pub some : 1 ≤ st.head.elems.capacity
-  pub slots : st.head.elems.capacity ≤ most_slots
-  pub all : st.head.elems.capacity * frame_width ≤ length sc
 
-pub rows : (st : State) (sc₀ : List ℕ) (g : ℕ) (e sc : List ℕ) (n : ℕ) → Ready st → st.head.elems.capacity * frame_width ≤ length sc₀ → Gathered st sc₀ g e sc n → Rows st e sc n
+pub rows : (st : State) (sc₀ : List ℕ) (g : ℕ) (e sc : List ℕ) (n : ℕ) → Ready st → st.head.elems.capacity * frame_width ≤ length sc₀ → Gathered st sc₀ g e sc n → Rows e sc n
 rows st sc₀ g e sc n R room G =
     let fit = order_fits st R in
     let H = shaped_of st R.shape in
@@ -56,9 +53,6 @@ rows st sc₀ g e sc n R room G =
       few = omega (arith, G.all, fit, H.elems.small);
       elems = omega (arith, G.all, fit, H.elems.long, G.long);
       scratch = omega (arith, G.all, fit, room, G.wide);
-      some = H.elems.some;
-      slots = H.elems.small;
-      all = omega (arith, room, G.wide);
     }
 
 -- the element side

@@ -2,12 +2,14 @@
 #![tactic(auto)]
 
 ghost use Rattle.std.specs.Prelude.{◌≡◌};
+ghost use Rattle.rules.specs.declared.Head.{Head};
 ghost use Rattle.rules.specs.Answers.{said_step, head_after};
 ghost use Rattle.numbers.specs.Numbers.{Answered, head_of};
 
 use numbers::answers::{Numbers, result_of};
 use rules::{Head, Memory, Pool, Refusal, Step};
 
+#[tactic(auto, unfolding(numbers::specs::Numbers::head_of))]
 pub fn unpack(h: [u64; 13]) -> Head
     ensures { result ≡ head_of h }
 {
@@ -34,6 +36,7 @@ pub fn unpack(h: [u64; 13]) -> Head
     }
 }
 
+#[tactic(auto, unfolding(numbers::specs::Numbers::head_of))]
 pub fn pack(h: Head) -> [u64; 13]
     ensures { head_of result ≡ h }
 {
@@ -58,7 +61,7 @@ pub fn pack(h: Head) -> [u64; 13]
 }
 
 // What a host lends as its head.
-pub trait Lent {
+pub trait Lent: Copy {
     ghost head: { Self → Head };
 
     fn lend(next: Head) -> Self

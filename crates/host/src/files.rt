@@ -4,8 +4,8 @@ ghost use Rattle.rules.specs.Calls.{write_file};
 ghost use Rattle.numbers.specs.Numbers.{values};
 ghost use Rattle.promises.specs.Host.{AtHost, AtRead, left};
 
-use heads::{store, unpack};
-use numbers::answers;
+use heads::{finish, unpack};
+use numbers::answers::told;
 
 // Ticket 11: writes all runs to the lent bytes; the answer is how many.
 #[unsafe(no_mangle)]
@@ -19,7 +19,7 @@ pub extern "C" fn doorsedge_write_file(
     ensures { AtHost write_file values head.now elems.now shared.now file.old out.old (left result head.now elems.now shared.now file.new out.new) }
 {
     let answer = door::write_file(unpack(*head), elems, shared, file);
-    answers::number(answer, out)
+    told(answer, out)
 }
 
 // Ticket 11: the file's runs in fresh tables of the head's capacities; all else that head and tables hold may be anything.
@@ -33,9 +33,5 @@ pub extern "C" fn doorsedge_read_file(
     ensures { AtRead file.now head.old elems.old shared.old (left result head.new elems.new shared.new [] []) }
 {
     let step = door::read_file(unpack(*head), elems, shared, file);
-    let next = step.head;
-    let answer = step.answer;
-    let number = answers::plain(answer);
-    store(head, next, number);
-    number
+    finish(step, head, &mut [])
 }

@@ -4,8 +4,7 @@ ghost use Rattle.rules.specs.Calls.{new_run, insert, union, undo, remove, remove
 ghost use Rattle.numbers.specs.Numbers.{values, values_over, removal_numbers};
 ghost use Rattle.promises.specs.Host.{key_of, AtHost, left};
 
-use heads::{store, unpack};
-use numbers::answers;
+use heads::{finish, unpack};
 use rules::Key;
 
 // Rules 4: begins a run.
@@ -22,11 +21,7 @@ pub extern "C" fn doorsedge_insert_surject(
     ensures { AtHost (new_run payload value size) values head.old elems.old shared.old [] out.old (left result head.new elems.new shared.new [] out.new) }
 {
     let step = door::insert_surject(unpack(*head), elems, shared, payload, value, size);
-    let next = step.head;
-    let answer = step.answer;
-    let number = answers::key(answer, out);
-    store(head, next, number);
-    number
+    finish(step, head, out)
 }
 
 // Rules 5: puts a frame in, immediately after the key's.
@@ -43,22 +38,9 @@ pub extern "C" fn doorsedge_insert(
 ) -> u64
     ensures { AtHost (insert (key_of slot generation) payload size) values head.old elems.old shared.old [] out.old (left result head.new elems.new shared.new [] out.new) }
 {
-    let step = door::insert(
-        unpack(*head),
-        elems,
-        shared,
-        Key {
-            slot: slot,
-            generation: generation,
-        },
-        payload,
-        size,
-    );
-    let next = step.head;
-    let answer = step.answer;
-    let number = answers::key(answer, out);
-    store(head, next, number);
-    number
+    let key = Key { slot, generation };
+    let step = door::insert(unpack(*head), elems, shared, key, payload, size);
+    finish(step, head, out)
 }
 
 // Rules 6: joins two runs.
@@ -75,24 +57,16 @@ pub extern "C" fn doorsedge_union(
 ) -> u64
     ensures { AtHost (union (key_of slot0 generation0) (key_of slot1 generation1)) values head.old elems.old shared.old [] out.old (left result head.new elems.new shared.new [] out.new) }
 {
-    let step = door::union(
-        unpack(*head),
-        elems,
-        shared,
-        Key {
-            slot: slot0,
-            generation: generation0,
-        },
-        Key {
-            slot: slot1,
-            generation: generation1,
-        },
-    );
-    let next = step.head;
-    let answer = step.answer;
-    let number = answers::joined(answer, out);
-    store(head, next, number);
-    number
+    let j = Key {
+        slot: slot0,
+        generation: generation0,
+    };
+    let k = Key {
+        slot: slot1,
+        generation: generation1,
+    };
+    let step = door::union(unpack(*head), elems, shared, j, k);
+    finish(step, head, out)
 }
 
 // Ticket 7: takes the last union back.
@@ -101,11 +75,7 @@ pub extern "C" fn doorsedge_undo(head: &mut [u64; 13], elems: &mut [u64], shared
     ensures { AtHost undo values head.old elems.old shared.old [] [] (left result head.new elems.new shared.new [] []) }
 {
     let step = door::undo(unpack(*head), elems, shared);
-    let next = step.head;
-    let answer = step.answer;
-    let number = answers::plain(answer);
-    store(head, next, number);
-    number
+    finish(step, head, &mut [])
 }
 
 // Rules 7: removes a frame.
@@ -120,20 +90,9 @@ pub extern "C" fn doorsedge_remove_element(
 ) -> u64
     ensures { AtHost (remove (key_of slot generation)) removal_numbers head.old elems.old shared.old [] out.old (left result head.new elems.new shared.new [] out.new) }
 {
-    let step = door::remove_element(
-        unpack(*head),
-        elems,
-        shared,
-        Key {
-            slot: slot,
-            generation: generation,
-        },
-    );
-    let next = step.head;
-    let answer = step.answer;
-    let number = answers::removed(answer, step.over, out);
-    store(head, next, number);
-    number
+    let key = Key { slot, generation };
+    let removed = door::remove_element(unpack(*head), elems, shared, key);
+    finish(removed, head, out)
 }
 
 // Rules 8: removes the key's whole run.
@@ -148,18 +107,7 @@ pub extern "C" fn doorsedge_remove_shared(
 ) -> u64
     ensures { AtHost (remove_shared (key_of slot generation)) values_over head.old elems.old shared.old [] out.old (left result head.new elems.new shared.new [] out.new) }
 {
-    let step = door::remove_shared(
-        unpack(*head),
-        elems,
-        shared,
-        Key {
-            slot: slot,
-            generation: generation,
-        },
-    );
-    let next = step.head;
-    let answer = step.answer;
-    let number = answers::number_over(answer, step.over, out);
-    store(head, next, number);
-    number
+    let key = Key { slot, generation };
+    let step = door::remove_shared(unpack(*head), elems, shared, key);
+    finish(step, head, out)
 }

@@ -4,8 +4,7 @@ ghost use Rattle.rules.specs.Calls.{compress_with};
 ghost use Rattle.numbers.specs.Numbers.{values_over};
 ghost use Rattle.promises.specs.Host.{AtHost, left, is_set};
 
-use heads::{store, unpack};
-use numbers::answers;
+use heads::{finish, unpack};
 
 // Ticket 3: moves all frames down in slot order; an old key and its new one for each.
 #[unsafe(no_mangle)]
@@ -20,9 +19,5 @@ pub extern "C" fn doorsedge_compress_with(
     ensures { AtHost (compress_with (is_set reset)) values_over head.old elems.old shared.old pairs.old out.old (left result head.new elems.new shared.new pairs.new out.new) }
 {
     let step = door::compress_with(unpack(*head), elems, shared, pairs, reset != 0);
-    let next = step.head;
-    let answer = step.answer;
-    let number = answers::number_over(answer, step.over, out);
-    store(head, next, number);
-    number
+    finish(step, head, out)
 }

@@ -5,7 +5,7 @@ ghost use Rattle.numbers.specs.Numbers.{values};
 ghost use Rattle.promises.specs.Host.{key_of, AtHost, left};
 
 use heads::unpack;
-use numbers::answers;
+use numbers::answers::told;
 use rules::Key;
 
 // Rules 1: how many frames the key's run has.
@@ -20,16 +20,9 @@ pub extern "C" fn doorsedge_len_surject(
 ) -> u64
     ensures { AtHost (len_surject (key_of slot generation)) values head.now elems.now shared.now [] out.old (left result head.now elems.now shared.now [] out.new) }
 {
-    let answer = door::len_surject(
-        unpack(*head),
-        elems,
-        shared,
-        Key {
-            slot: slot,
-            generation: generation,
-        },
-    );
-    answers::number(answer, out)
+    let key = Key { slot, generation };
+    let answer = door::len_surject(unpack(*head), elems, shared, key);
+    told(answer, out)
 }
 
 // Rules 1: whether both keys are of one run.
@@ -46,20 +39,16 @@ pub extern "C" fn doorsedge_in_same_surject(
 ) -> u64
     ensures { AtHost (in_same_surject (key_of slot0 generation0) (key_of slot1 generation1)) values head.now elems.now shared.now [] out.old (left result head.now elems.now shared.now [] out.new) }
 {
-    let answer = door::in_same_surject(
-        unpack(*head),
-        elems,
-        shared,
-        Key {
-            slot: slot0,
-            generation: generation0,
-        },
-        Key {
-            slot: slot1,
-            generation: generation1,
-        },
-    );
-    answers::same(answer, out)
+    let j = Key {
+        slot: slot0,
+        generation: generation0,
+    };
+    let k = Key {
+        slot: slot1,
+        generation: generation1,
+    };
+    let answer = door::in_same_surject(unpack(*head), elems, shared, j, k);
+    told(answer, out)
 }
 
 // Rules 1: the payload.
@@ -74,16 +63,9 @@ pub extern "C" fn doorsedge_get(
 ) -> u64
     ensures { AtHost (get_element (key_of slot generation)) values head.now elems.now shared.now [] out.old (left result head.now elems.now shared.now [] out.new) }
 {
-    let answer = door::get(
-        unpack(*head),
-        elems,
-        shared,
-        Key {
-            slot: slot,
-            generation: generation,
-        },
-    );
-    answers::number(answer, out)
+    let key = Key { slot, generation };
+    let answer = door::get(unpack(*head), elems, shared, key);
+    told(answer, out)
 }
 
 // Rules 1: the shared value of the key's run.
@@ -98,16 +80,9 @@ pub extern "C" fn doorsedge_get_shared(
 ) -> u64
     ensures { AtHost (get_shared (key_of slot generation)) values head.now elems.now shared.now [] out.old (left result head.now elems.now shared.now [] out.new) }
 {
-    let answer = door::get_shared(
-        unpack(*head),
-        elems,
-        shared,
-        Key {
-            slot: slot,
-            generation: generation,
-        },
-    );
-    answers::number(answer, out)
+    let key = Key { slot, generation };
+    let answer = door::get_shared(unpack(*head), elems, shared, key);
+    told(answer, out)
 }
 
 // Ticket 6: the size of the key's frame.
@@ -122,16 +97,9 @@ pub extern "C" fn doorsedge_get_size(
 ) -> u64
     ensures { AtHost (get_size (key_of slot generation)) values head.now elems.now shared.now [] out.old (left result head.now elems.now shared.now [] out.new) }
 {
-    let answer = door::get_size(
-        unpack(*head),
-        elems,
-        shared,
-        Key {
-            slot: slot,
-            generation: generation,
-        },
-    );
-    answers::number(answer, out)
+    let key = Key { slot, generation };
+    let answer = door::get_size(unpack(*head), elems, shared, key);
+    told(answer, out)
 }
 
 // Ticket 6: the total of the key's run.
@@ -146,16 +114,9 @@ pub extern "C" fn doorsedge_get_total(
 ) -> u64
     ensures { AtHost (get_total (key_of slot generation)) values head.now elems.now shared.now [] out.old (left result head.now elems.now shared.now [] out.new) }
 {
-    let answer = door::get_total(
-        unpack(*head),
-        elems,
-        shared,
-        Key {
-            slot: slot,
-            generation: generation,
-        },
-    );
-    answers::number(answer, out)
+    let key = Key { slot, generation };
+    let answer = door::get_total(unpack(*head), elems, shared, key);
+    told(answer, out)
 }
 
 // Ticket 5: whether the key is live, and why not.
@@ -169,16 +130,9 @@ pub extern "C" fn doorsedge_lookup(
 ) -> u64
     ensures { AtHost (lookup (key_of slot generation)) values head.now elems.now shared.now [] [] (left result head.now elems.now shared.now [] []) }
 {
-    let answer = door::lookup(
-        unpack(*head),
-        elems,
-        shared,
-        Key {
-            slot: slot,
-            generation: generation,
-        },
-    );
-    answers::plain(answer)
+    let key = Key { slot, generation };
+    let answer = door::lookup(unpack(*head), elems, shared, key);
+    told(answer, &mut [])
 }
 
 // Rules 9: the keys of the run, in ring order from the key.
@@ -194,15 +148,7 @@ pub extern "C" fn doorsedge_list(
 ) -> u64
     ensures { AtHost (list (key_of slot generation)) values head.now elems.now shared.now places.old out.old (left result head.now elems.now shared.now places.new out.new) }
 {
-    let answer = door::list(
-        unpack(*head),
-        elems,
-        shared,
-        Key {
-            slot: slot,
-            generation: generation,
-        },
-        places,
-    );
-    answers::number(answer, out)
+    let key = Key { slot, generation };
+    let answer = door::list(unpack(*head), elems, shared, key, places);
+    told(answer, out)
 }

@@ -3,8 +3,7 @@ ghost use Rattle.rules.specs.Calls.{seal};
 ghost use Rattle.numbers.specs.Numbers.{values};
 ghost use Rattle.promises.specs.Host.{key_of, AtHost, left};
 
-use heads::{store, unpack};
-use numbers::answers;
+use heads::{finish, unpack};
 use rules::Key;
 
 // Ticket 1: seals the key's run, a place for each of its frames.
@@ -20,19 +19,7 @@ pub extern "C" fn doorsedge_seal(
 ) -> u64
     ensures { AtHost (seal (key_of slot generation)) values head.old elems.now shared.old places.old out.old (left result head.new elems.now shared.new places.new out.new) }
 {
-    let step = door::seal(
-        unpack(*head),
-        elems,
-        shared,
-        Key {
-            slot: slot,
-            generation: generation,
-        },
-        places,
-    );
-    let next = step.head;
-    let answer = step.answer;
-    let number = answers::sealed(answer, out);
-    store(head, next, number);
-    number
+    let key = Key { slot, generation };
+    let step = door::seal(unpack(*head), elems, shared, key, places);
+    finish(step, head, out)
 }

@@ -4,32 +4,18 @@ ghost use Rattle.rules.specs.Calls.{set_element, set_shared, exchange};
 ghost use Rattle.numbers.specs.Numbers.{values};
 ghost use Rattle.promises.specs.Host.{key_of, AtHost, left, keys_of};
 
-use heads::{store, unpack};
-use numbers::answers;
+use heads::{finish, unpack};
 use rules::Key;
 
 // Slot and generation of each key in turn.
 fn four_keys(keys: [u64; 8]) -> [Key; 4]
     ensures { result ≡ keys_of keys }
 {
-    [
-        Key {
-            slot: keys[0],
-            generation: keys[1],
-        },
-        Key {
-            slot: keys[2],
-            generation: keys[3],
-        },
-        Key {
-            slot: keys[4],
-            generation: keys[5],
-        },
-        Key {
-            slot: keys[6],
-            generation: keys[7],
-        },
-    ]
+    let key = |i: usize| Key {
+        slot: keys[2 * i],
+        generation: keys[2 * i + 1],
+    };
+    [key(0), key(1), key(2), key(3)]
 }
 
 // Rules 1: stores a payload.
@@ -45,21 +31,9 @@ pub extern "C" fn doorsedge_set(
 ) -> u64
     ensures { AtHost (set_element (key_of slot generation) payload) values head.old elems.old shared.now [] out.old (left result head.new elems.new shared.now [] out.new) }
 {
-    let step = door::set(
-        unpack(*head),
-        elems,
-        shared,
-        Key {
-            slot: slot,
-            generation: generation,
-        },
-        payload,
-    );
-    let next = step.head;
-    let answer = step.answer;
-    let number = answers::number(answer, out);
-    store(head, next, number);
-    number
+    let key = Key { slot, generation };
+    let step = door::set(unpack(*head), elems, shared, key, payload);
+    finish(step, head, out)
 }
 
 // Rules 1: stores the shared value of the key's run.
@@ -75,21 +49,9 @@ pub extern "C" fn doorsedge_set_shared(
 ) -> u64
     ensures { AtHost (set_shared (key_of slot generation) value) values head.old elems.now shared.old [] out.old (left result head.new elems.now shared.new [] out.new) }
 {
-    let step = door::set_shared(
-        unpack(*head),
-        elems,
-        shared,
-        Key {
-            slot: slot,
-            generation: generation,
-        },
-        value,
-    );
-    let next = step.head;
-    let answer = step.answer;
-    let number = answers::number(answer, out);
-    store(head, next, number);
-    number
+    let key = Key { slot, generation };
+    let step = door::set_shared(unpack(*head), elems, shared, key, value);
+    finish(step, head, out)
 }
 
 // Rules 13: four keys and four new shared values go in together.
@@ -111,11 +73,5 @@ pub extern "C" fn doorsedge_exchange_shared4(
         four_keys(*keys),
         *news,
     );
-    let next = step.head;
-    let exchanged = step.answer;
-    let answer = exchanged.answer;
-    let old = exchanged.old;
-    let number = answers::four(answer, old, out);
-    store(head, next, number);
-    number
+    finish(step, head, out)
 }

@@ -2,8 +2,8 @@
 ghost use Rattle.std.specs.Prelude.{[]};
 ghost use Rattle.promises.specs.Two.{left_two, AtHostCopy, AtHostMove};
 
-use heads::{store, unpack};
-use numbers::answers;
+use heads::{finish, pack, unpack};
+use numbers::answers::{Numbers, result_of};
 
 // Ticket 10: copies a study to other tables, whatever they held; keys of live frames stay valid there.
 #[unsafe(no_mangle)]
@@ -19,11 +19,7 @@ pub extern "C" fn doorsedge_clone_from(
 {
     let from = unpack(*source);
     let step = door::clone_from(unpack(*head), elems, shared, from, frames, headers);
-    let next = step.head;
-    let answer = step.answer;
-    let number = answers::plain(answer);
-    store(head, next, number);
-    number
+    finish(step, head, &mut [])
 }
 
 // Ticket 12: moves a study to other tables in canonical order, with this generation; its own are left as clear leaves them.
@@ -40,21 +36,14 @@ pub extern "C" fn doorsedge_transfer_canonical(
 ) -> u64
     ensures { AtHostMove generation head.old elems.old shared.old source.old frames.old headers.old out.old (left_two result head.new elems.new shared.new source.new frames.new headers.new out.new) }
 {
-    let leaving = unpack(*source);
-    let step = door::transfer_canonical(
-        unpack(*head),
-        elems,
-        shared,
-        generation,
-        leaving,
-        frames,
-        headers,
-    );
-    let landed = step.head;
-    let left = step.source;
-    let answer = step.answer;
-    let number = answers::over_only(answer, step.over, out);
-    store(head, landed, number);
-    store(source, left, number);
-    number
+    let (to, from) = (unpack(*head), unpack(*source));
+    match door::transfer_canonical(to, elems, shared, generation, from, frames, headers) {
+        Ok(moved) => {
+            *head = pack(moved.head);
+            *source = pack(moved.source);
+            *out = ().numbers(moved.over);
+            0
+        }
+        Err(refusal) => result_of(refusal),
+    }
 }

@@ -4,8 +4,8 @@ ghost use Rattle.rules.specs.Calls.{check, drain, drain_all, clear, compress};
 ghost use Rattle.numbers.specs.Numbers.{values, values_over};
 ghost use Rattle.promises.specs.Host.{key_of, AtHost, left, is_set, AtFresh};
 
-use heads::{store, unpack};
-use numbers::answers;
+use heads::{finish, unpack};
+use numbers::answers::told;
 use rules::Key;
 
 // Rules 2: empty tables of these capacities; the head and the tables may hold anything.
@@ -20,11 +20,7 @@ pub extern "C" fn doorsedge_fresh(
     ensures { AtFresh frames headers head.old elems.old shared.old (left result head.new elems.new shared.new [] []) }
 {
     let step = door::fresh(unpack(*head), frames, headers, elems, shared);
-    let next = step.head;
-    let answer = step.answer;
-    let number = answers::plain(answer);
-    store(head, next, number);
-    number
+    finish(step, head, &mut [])
 }
 
 // Rules 1, the check: whether head and tables are a sound state.
@@ -33,7 +29,7 @@ pub extern "C" fn doorsedge_check(head: &[u64; 13], elems: &[u64], shared: &[u64
     ensures { AtHost check values head.now elems.now shared.now [] [] (left result head.now elems.now shared.now [] []) }
 {
     let answer = door::check(unpack(*head), elems, shared);
-    answers::plain(answer)
+    told(answer, &mut [])
 }
 
 // Rules 12: empty tables, the generation one higher.
@@ -47,11 +43,7 @@ pub extern "C" fn doorsedge_clear(
     ensures { AtHost (clear) values_over head.old elems.old shared.old [] out.old (left result head.new elems.new shared.new [] out.new) }
 {
     let step = door::clear(unpack(*head), elems, shared);
-    let next = step.head;
-    let answer = step.answer;
-    let number = answers::over_only(answer, step.over, out);
-    store(head, next, number);
-    number
+    finish(step, head, out)
 }
 
 // Rules 14: moves all frames down, runs in canonical order.
@@ -67,11 +59,7 @@ pub extern "C" fn doorsedge_compress_canonical(
     ensures { AtHost (compress (is_set reset)) values_over head.old elems.old shared.old scratch.old out.old (left result head.new elems.new shared.new scratch.new out.new) }
 {
     let step = door::compress_canonical(unpack(*head), elems, shared, scratch, reset != 0);
-    let next = step.head;
-    let answer = step.answer;
-    let number = answers::over_only(answer, step.over, out);
-    store(head, next, number);
-    number
+    finish(step, head, out)
 }
 
 // Rules 10: removes the run frame by frame, a record for each.
@@ -87,21 +75,9 @@ pub extern "C" fn doorsedge_drain(
 ) -> u64
     ensures { AtHost (drain (key_of slot generation)) values head.old elems.old shared.old records.old out.old (left result head.new elems.new shared.new records.new out.new) }
 {
-    let step = door::drain(
-        unpack(*head),
-        elems,
-        shared,
-        Key {
-            slot: slot,
-            generation: generation,
-        },
-        records,
-    );
-    let next = step.head;
-    let answer = step.answer;
-    let number = answers::number(answer, out);
-    store(head, next, number);
-    number
+    let key = Key { slot, generation };
+    let step = door::drain(unpack(*head), elems, shared, key, records);
+    finish(step, head, out)
 }
 
 // Rules 11: drains every run, then clears.
@@ -116,9 +92,5 @@ pub extern "C" fn doorsedge_drain_all(
     ensures { AtHost (drain_all) values head.old elems.old shared.old records.old out.old (left result head.new elems.new shared.new records.new out.new) }
 {
     let step = door::drain_all(unpack(*head), elems, shared, records);
-    let next = step.head;
-    let answer = step.answer;
-    let number = answers::number(answer, out);
-    store(head, next, number);
-    number
+    finish(step, head, out)
 }

@@ -2,10 +2,10 @@
 #![tactic(auto)]
 
 ghost use Rattle.std.specs.Prelude.{◌≤◌, ◌<◌, ◌≡◌, ◌^◌, Some, IfSome};
-ghost use Rattle.sample.specs.Sample.{answer_at, key_of, key_at, JoinsAs, JoinedAs, RingOf, ListsAs, ListedAs, DrainsAs, DrainedAs, OnlyIf};
+ghost use Rattle.sample.specs.Sample.{answer_at, key_of, key_at, JoinedAs, RingOf, ListsAs, ListedAs, DrainsAs, DrainedAs, OnlyIf};
 
 use names::Given;
-use rules::{Joined, Key, Number};
+use rules::{Joined, Key, Refusal};
 use sample::Record;
 
 // Numbers to a key that `list` wrote, and to a frame that `drain` wrote.
@@ -30,10 +30,7 @@ fn is_key(at: usize, key: Key, given: &Given, sample: &Record) -> bool
     let Some(frame) = sample.answer(at) else {
         return false;
     };
-    match given.key(frame) {
-        Some(wanted) => key.slot == wanted.slot && key.generation == wanted.generation,
-        None => false,
-    }
+    given.key(frame) == Some(key)
 }
 
 // Keys that were written, `width` numbers apart, are those of the answer's frames.
@@ -53,28 +50,31 @@ fn is_ring(count: u8, width: usize, written: &[u64], given: &Given, sample: &Rec
 }
 
 // A union: the value that was, the kept key, and how many frames moved.
-pub fn is_joined(answer: Joined, given: &Given, sample: &Record) -> bool
+pub fn is_joined(answer: Result<Joined, Refusal>, given: &Given, sample: &Record) -> bool
     ensures { OnlyIf (JoinedAs answer given.now.keys sample.now.bytes) result }
 {
     match answer {
-        Joined::Into { was, kept, moved } => is_union(was, kept, moved, given, sample),
-        Joined::Refused(refusal) => sample.is_refused(refusal),
+        Ok(joined) => {
+            sample.is_answer(0, joined.was)
+                && is_key(1, joined.kept, given, sample)
+                && sample.is_answer(2, joined.moved)
+        }
+        Err(refusal) => sample.is_refused(refusal),
     }
 }
 
-fn is_union(was: u64, kept: Key, moved: u64, given: &Given, sample: &Record) -> bool
-    ensures { OnlyIf (JoinsAs was kept moved given.now.keys sample.now.bytes) result }
-{
-    sample.is_answer(0, was) && is_key(1, kept, given, sample) && sample.is_answer(2, moved)
-}
-
 // A list: as many keys as the record has answers.
-pub fn is_list(answer: Number, written: &[u64], given: &Given, sample: &Record) -> bool
+pub fn is_list(
+    answer: Result<u64, Refusal>,
+    written: &[u64],
+    given: &Given,
+    sample: &Record,
+) -> bool
     ensures { OnlyIf (ListedAs answer written.now given.now.keys sample.now.bytes) result }
 {
     match answer {
-        Number::Is(n) => is_listed(n, written, given, sample),
-        Number::Refused(refusal) => sample.is_refused(refusal),
+        Ok(n) => is_listed(n, written, given, sample),
+        Err(refusal) => sample.is_refused(refusal),
     }
 }
 
@@ -86,12 +86,17 @@ fn is_listed(n: u64, written: &[u64], given: &Given, sample: &Record) -> bool
 }
 
 // A drain: the ring, frame by frame, then its value.
-pub fn is_drained(answer: Number, written: &[u64], given: &Given, sample: &Record) -> bool
+pub fn is_drained(
+    answer: Result<u64, Refusal>,
+    written: &[u64],
+    given: &Given,
+    sample: &Record,
+) -> bool
     ensures { OnlyIf (DrainedAs answer written.now given.now.keys sample.now.bytes) result }
 {
     match answer {
-        Number::Is(n) => is_drain(n, written, given, sample),
-        Number::Refused(refusal) => sample.is_refused(refusal),
+        Ok(n) => is_drain(n, written, given, sample),
+        Err(refusal) => sample.is_refused(refusal),
     }
 }
 

@@ -1,23 +1,21 @@
 -- The whole input: what was read and printed so far is what Script says of it, block after block, to the end.
 use Rattle.std.specs.Prelude.{if◌then◌else◌, ◌==◌}
-use Prim.Native.Nat.{ℕ, ◌+◌, ◌≤◌, ◌<◌}
+use Prim.Native.Nat.{ℕ, ◌≤◌, ◌<◌}
 use mathlib.Core.Path.{◌≡◌, refl, sym, ap, ◌∙◌}
 use mathlib.Core.Bool.{Bool, true, false}
 use mathlib.Core.List.{List, [], ◌∷◌, ◌++◌, append_assoc, append-nil}
 use native.Mathlib.Decide.{dec_lt}
 use native.Mathlib.Omega.{arith}
-use lib.ListN.{length, take, drop, length-append}
-use lib.Seq.{sets-eq, take_all, take_at, take-nil, drop-length, length-take-le, append_snoc}
+use lib.ListN.{length, take}
+use lib.Seq.{take_all, take-nil, length-take-le, append_snoc}
 use Rattle.rules.specs.Tables.{State}
 use Rattle.rules.specs.Script.{line_most, newline, prepend, pieces, Reply, line_reply, without_empty_last, replies, output}
 use Rattle.words.specs.Words.{onto}
 use Rattle.words.proofs.Pieces.{onto-nothing, pieces-some}
 use Rattle.words.proofs.Letters.{line-long}
-use Rattle.told.specs.Put.{Put}
-use Rattle.lines.specs.declared.stream.Gathered.{Gathered}
 use Rattle.lines.specs.Obeys.{with_newline, ObeysLine}
-use Rattle.lines.specs.Stream.{Holds, Gathers, reached, fresh_state, Follows}
-use Rattle.lines.proofs.Gathering.{all_held}
+use Rattle.lines.specs.Stream.{Holds, Keeps, reached, fresh_state, Follows}
+use Rattle.lines.proofs.Gathering.{all_held, put-take}
 
 -- ---- pieces of two texts: the last of the one and the first of the other are one
 
@@ -83,14 +81,6 @@ line-cut st n l h = go (dec_lt n (length l))
         line-long st (take n l) (omega arith) ∙ sym (line-long st l (omega arith))
     go (no m) = ap (line_reply st) (take_all n l (omega arith))
 
-put-take : (before after bytes : List ℕ) (at next : ℕ) → Put before at bytes after next → next ≤ length before → take next after ≡ take at before ++ bytes
-put-take before after bytes at next p h =
-    let n : at + length bytes ≤ length before = omega (arith, p.past) in
-    let e : after ≡ (take at before ++ bytes) ++ drop (at + length bytes) before =
-    p.written ∙ sets-eq bytes before at n in
-    rw e (take_at (take at before ++ bytes) (drop (at + length bytes) before) next
-    (simp length-append (omega (arith, p.past, length-take-le at before (omega arith)))))
-
 -- ---- what follows
 
 -- a block comes
@@ -114,19 +104,18 @@ pub follows-room : {input left : List ℕ} {st : State} {out : List ℕ} {fill a
     → Follows input left st out fill line held gone → gone' ++ take at out ≡ gone ++ take fill out → Follows input left st out at line held gone'
 follows-room f e = record { lines = f.lines; begun = f.begun; whole = f.whole; state = f.state; printed = e ∙ f.printed; holds = f.holds }
 
--- a part of a line is gathered
-pub follows_part : {input block : List ℕ} {at : ℕ} {st : State} {out : List ℕ} {fill : ℕ} {line after : List ℕ} {held : ℕ} {gone : List ℕ} {r : Gathered}
-    → Follows input (drop at block) st out fill line held gone → Gathers block at line held after r → r.whole ≡ false
-    → Follows input (drop r.next block) st out fill after r.held gone
+-- a part of a line is held, with which a block ends
+pub follows_part : {input left : List ℕ} {st : State} {out : List ℕ} {fill : ℕ} {line after : List ℕ} {held r : ℕ} {gone : List ℕ}
+    → Follows input left st out fill line held gone → pieces newline left ≡ left ∷ [] → Keeps line held left after r → Follows input [] st out fill after r gone
 unfolding pieces
-follows_part {block = block} {r = r} f g e =
+follows_part {left = left} f e k =
     record {
       lines = f.lines;
-      begun = f.begun ++ g.piece;
-      whole = f.whole ∙ rw (g.first, e, g.last e, drop-length block) (ap (λ (p : List ℕ). f.lines ++ p ∷ []) (sym (append-nil (f.begun ++ g.piece))));
+      begun = f.begun ++ left;
+      whole = f.whole ∙ rw e (ap (λ (p : List ℕ). f.lines ++ p ∷ []) (sym (append-nil (f.begun ++ left))));
       state = f.state;
       printed = f.printed;
-      holds = g.holds f.begun f.holds;
+      holds = k.holds f.begun f.holds;
     }
 
 -- a line is obeyed, whose bytes are held
@@ -147,23 +136,23 @@ module _ (st : State) (lines : List (List ℕ)) (bytes gone : List ℕ) (out : L
       ∙ ap (λ (r : Reply). replies fresh_state lines ++ with_newline r) reply
       ∙ sym (replies_more fresh_state lines bytes)
 
--- a whole line is gathered and obeyed: what is left begins a new one
-pub follows-line : {input block : List ℕ} {at : ℕ} {st st' : State} {out out' : List ℕ} {fill next : ℕ} {line after : List ℕ} {held : ℕ} {gone : List ℕ} {r : Gathered}
-    → Follows input (drop at block) st out fill line held gone → Gathers block at line held after r → r.whole ≡ true → line_most < length after
-    → ObeysLine (line_reply st (take r.held after)) st' out fill out' next → next ≤ length out
-    → Follows input (drop r.next block) st' out' next after 0 gone
-follows-line {block = block} {st = st} {st'} {out} {out'} {fill} {next} {line} {after} {held} {gone} {r} f g e m o n =
-    let bytes = f.begun ++ g.piece in
-    let h = g.holds f.begun f.holds in
+-- a line is held to its end and obeyed: what is left begins a new one
+pub follows-line : {input left part rest : List ℕ} {st st' : State} {out out' : List ℕ} {fill next : ℕ} {line after : List ℕ} {held r : ℕ} {gone : List ℕ}
+    → Follows input left st out fill line held gone → pieces newline left ≡ part ∷ pieces newline rest → Keeps line held part after r → line_most < length after
+    → ObeysLine (line_reply st (take r after)) st' out fill out' next → next ≤ length out → (line' : List ℕ)
+    → Follows input rest st' out' next line' 0 gone
+follows-line {part = part} {rest} {st} {st'} {out} {out'} {fill} {next} {line} {after} {held} {r} {gone} f e k m o n line' =
+    let bytes = f.begun ++ part in
+    let h = k.holds f.begun f.holds in
     record {
       lines = f.lines ++ bytes ∷ [];
       begun = [];
       whole = f.whole
-          ∙ rw (g.first, e) (sym (append_snoc f.lines bytes (pieces newline (drop r.next block))))
-          ∙ ap (λ (ps : List (List ℕ)). (f.lines ++ bytes ∷ []) ++ ps) (sym (onto-nothing newline (drop r.next block)));
-      state = state_then st f.lines bytes gone out fill after r.held f.state f.printed h m st' out' next o n;
-      printed = printed_then st f.lines bytes gone out fill after r.held f.state f.printed h m st' out' next o n;
-      holds = record { within = omega arith; same = sym (take-nil (length after)) };
+          ∙ rw e (sym (append_snoc f.lines bytes (pieces newline rest)))
+          ∙ ap (λ (ps : List (List ℕ)). (f.lines ++ bytes ∷ []) ++ ps) (sym (onto-nothing newline rest));
+      state = state_then st f.lines bytes gone out fill after r f.state f.printed h m st' out' next o n;
+      printed = printed_then st f.lines bytes gone out fill after r f.state f.printed h m st' out' next o n;
+      holds = record { within = omega arith; same = sym (take-nil (length line')) };
     }
 
 -- ---- the end

@@ -1,18 +1,23 @@
 -- A line gathered from a block: its bytes are kept while there is room, up to a newline.
-use Prim.Native.Nat.{ℕ, ◌+◌, ◌≤◌, ◌<◌}
+use Prim.Native.Nat.{ℕ, ◌+◌, ◌-◌, ◌≤◌, ◌<◌, min}
 use mathlib.Core.Path.{◌≡◌, refl, sym, ap, ◌∙◌}
-use mathlib.Core.Bool.{true, false}
-use mathlib.Core.List.{List, [], ◌∷◌, ◌++◌, append_assoc, append-nil}
-use native.Mathlib.Decide.{dec_lt}
-use native.Mathlib.Numerals.{add-one}
+use mathlib.Core.List.{List, ◌++◌, append-nil}
+use native.Mathlib.Decide.{dec_lt, dec_le}
 use native.Mathlib.Omega.{arith}
-use lib.ListN.{length, get_or, take, set, length-set, length-append}
-use lib.Seq.{slice, slice_empty, take_all, take-append-le, take-suc-set, length-take-le}
-use Rattle.rules.specs.Script.{newline}
-use Rattle.words.proofs.Pieces.{slice-suc, Within, within-start, within-next, within_separator, within-last}
-use Rattle.lines.specs.Stream.{Holds, Keeps, Gathers}
+use lib.ListN.{length, take, drop, length-append}
+use lib.Seq.{sets-eq, take_all, take_at, take-append-le, take-append-add, length-take-le}
+use Rattle.told.specs.Put.{Put}
+use Rattle.lines.specs.Stream.{Holds, Keeps}
 
--- ---- a byte more
+pub put-take : (before after bytes : List ℕ) (at next : ℕ) → Put before at bytes after next → next ≤ length before → take next after ≡ take at before ++ bytes
+put-take before after bytes at next p h =
+    let n : at + length bytes ≤ length before = omega (arith, p.past) in
+    let e : after ≡ (take at before ++ bytes) ++ drop (at + length bytes) before =
+    p.written ∙ sets-eq bytes before at n in
+    rw e (take_at (take at before ++ bytes) (drop (at + length bytes) before) next
+    (simp length-append (omega (arith, p.past, length-take-le at before (omega arith)))))
+
+-- ---- a part more
 
 module _ (line : List ℕ) (held : ℕ) (bytes : List ℕ) (h : Holds line held bytes) where
   -- while there is room, all bytes are held
@@ -37,82 +42,31 @@ module _ (line : List ℕ) (held : ℕ) (bytes : List ℕ) (h : Holds line held 
       go (yes m) = omega (arith, n, ap length (h.same ∙ take_all (length line) bytes (omega arith)))
       go (no m) = omega arith
 
-pub keep-room : (line : List ℕ) (held b : ℕ) → held < length line → Keeps line held b (set line held b) (held + 1)
-keep-room line held b l =
-    record {
-      long = length-set line held b;
-      within = omega arith;
-      holds = λ bytes h.
+module _ (line part : List ℕ) (held kept : ℕ) (within : held ≤ length line) (some_kept : kept ≡ min (length part) (length line - held)) where
+  -- what is held of a line and a part more of it
+  kept_of : (bytes : List ℕ) → Holds line held bytes → take held line ++ take kept part ≡ take (length line) (bytes ++ part)
+  kept_of bytes h = go (dec_lt held (length line))
+    where
+      part_kept : Dec (length part ≤ length line - held) → take kept part ≡ take (length line - held) part
+      part_kept (yes m) = take_all kept part (omega arith) ∙ sym (take_all (length line - held) part m)
+      part_kept (no m) = let e : kept ≡ length line - held = omega arith in rw e refl
+
+      go : Dec (held < length line) → take held line ++ take kept part ≡ take (length line) (bytes ++ part)
+      go (yes l) =
           let a = all_held line held bytes h l in
-          let n : length (bytes ++ b ∷ []) ≤ length (set line held b) = simp (length-append, length-set) (omega (arith, a.1)) in
-          record {
-            within = rw length-set (omega arith);
-            same = rw (add-one, take-suc-set line held b l, a.0) (sym (take_all (length (set line held b)) (bytes ++ b ∷ []) n));
-          };
-    }
+          let n : length bytes + (length line - held) ≡ length line = omega arith in
+          ap (λ (xs : List ℕ). xs ++ take kept part) a.0 ∙ ap (λ (xs : List ℕ). bytes ++ xs) (part_kept (dec_le (length part) (length line - held)))
+          ∙ sym (take-append-add bytes part (length line - held)) ∙ ap (λ (m : ℕ). take m (bytes ++ part)) n
+      go (no l) =
+          let none : kept ≡ 0 = omega arith in
+          rw (none, append-nil) (h.same ∙ sym (take-append-le (length line) bytes part (none_lost line held bytes h (omega arith))))
 
-pub keep_full : (line : List ℕ) (held b : ℕ) → held ≤ length line → length line ≤ held → Keeps line held b line held
-keep_full line held b w l =
-    record {
-      long = refl;
-      within = w;
-      holds = λ bytes h. record { within = w; same = h.same ∙ sym (take-append-le (length line) bytes (b ∷ []) (none_lost line held bytes h l)) };
-    }
-
--- ---- a line gathered from a block
-
-module _ (block : List ℕ) (at : ℕ) (line : List ℕ) (held : ℕ) where
-  pub record Gathering (after : List ℕ) (kept i : ℕ) : Type 0 where
-    pub within : Within newline block at i
-    pub long : length after ≡ length line
-    pub room : kept ≤ length line
-    pub holds : (bytes : List ℕ) → Holds line held bytes → Holds after kept (bytes ++ slice at i block)
-
-  pub gathering_start : at ≤ length block → held ≤ length line → Gathering line held at
-  gathering_start h r =
+  pub held_part : (after : List ℕ) (r : ℕ) → length after ≡ length line → Put line held (take kept part) after r → Keeps line held part after r
+  held_part after r e p =
+      let n : length (take kept part) ≡ kept = length-take-le kept part (omega arith) in
+      let room : r ≤ length line = omega (arith, p.past) in
       record {
-        within = within-start newline block at h;
-        long = refl;
-        room = r;
-        holds = λ bytes q. rw (slice_empty at block, append-nil) q;
-      }
-
-  pub gathering_next : {after next : List ℕ} {kept i r : ℕ} → Gathering after kept i → i < length block → (get_or block i 0 ≡ newline → ⊥)
-      → Keeps after kept (get_or block i 0) next r → Gathering next r (i + 1)
-  gathering_next {i = i} g l n k =
-      record {
-        within = within-next newline block at i g.within l n;
-        long = k.long ∙ g.long;
-        room = omega (arith, k.within, g.long);
-        holds = λ bytes q.
-            rw (add-one, slice-suc at i block g.within.low l, ← (append_assoc bytes (slice at i block) (get_or block i 0 ∷ [])))
-            (k.holds (bytes ++ slice at i block) (g.holds bytes q));
-      }
-
-  pub gathered_line : {after : List ℕ} {kept i : ℕ} → Gathering after kept i → i < length block → get_or block i 0 ≡ newline
-      → Gathers block at line held after (record { next = i + 1; held = kept; whole = true })
-  gathered_line {i = i} g l n =
-      record {
-        piece = slice at i block;
-        first = within_separator newline block at i g.within l n;
-        holds = g.holds;
-        long = g.long;
-        room = g.room;
-        within = omega arith;
-        onward = λ h. omega (arith, g.within.low);
-        last = λ e. cc;
-      }
-
-  pub gathered_part : {after : List ℕ} {kept i : ℕ} → Gathering after kept i → length block ≤ i
-      → Gathers block at line held after (record { next = i; held = kept; whole = false })
-  gathered_part {i = i} g l =
-      record {
-        piece = slice at i block;
-        first = within-last newline block at i g.within l;
-        holds = g.holds;
-        long = g.long;
-        room = g.room;
-        within = g.within.high;
-        onward = λ h. omega arith;
-        last = λ e. omega (arith, g.within.high);
+        long = e;
+        within = room;
+        holds = λ bytes h. record { within = omega arith; same = put-take line after (take kept part) held r p room ∙ rw e (kept_of bytes h) };
       }

@@ -1,5 +1,5 @@
 -- Script: a call made at the inner door, and its answer printed, is a line obeyed.
-use Rattle.std.specs.Prelude.{if◌then◌else◌}
+use Rattle.std.specs.Prelude.{Result, Ok, Err, if◌then◌else◌}
 use Prim.Native.Nat.{ℕ, zero, suc, ◌+◌, ◌*◌, ◌<◌}
 use mathlib.Core.Path.{◌≡◌, refl, sym, ap, ◌∙◌}
 use mathlib.Core.Bool.{Bool, true, false}
@@ -9,8 +9,7 @@ use lib.ListN.{length, take, drop, replicate, length-append, length-replicate}
 use lib.Seq.{take_at}
 use Rattle.rules.specs.declared.Head.{Head}
 use Rattle.rules.specs.declared.Key.{Key}
-use Rattle.rules.specs.declared.Found.{Found}
-use Rattle.rules.specs.declared.Found.TheVariants as lookup
+use Rattle.rules.specs.declared.Cause.{Cause}
 use Rattle.rules.specs.declared.Refusal.TheVariants.{Short}
 use Rattle.rules.specs.Notation.{◌<?◌, along, flat}
 use Rattle.rules.specs.Tables.{next_of, State, state_of, found, key_at, size_at}
@@ -118,9 +117,9 @@ module _ (st : State) where
   unfolding drains.list rule keys_of
   list-alike k l m e = go (found st k)
     where
-      go : (f : Found) → Alike (when_live f (rule l)) (when_live f (rule m)) l m
-      go (lookup.Live x) = alike l m e x
-      go (lookup.Dead cause) = record { said = refl; state = refl; text = refl; places = λ e. absurd (omega (arith, e)) }
+      go : (f : Result ℕ Cause) → Alike (when_live f (rule l)) (when_live f (rule m)) l m
+      go (Ok x) = alike l m e x
+      go (Err cause) = record { said = refl; state = refl; text = refl; places = λ e. absurd (omega (arith, e)) }
 
 pub listed : (st : State) → Ready st → (k : Key) (head : Head) (elems shared keys written : List ℕ) (said : Said) {before after : List ℕ} {at next : ℕ}
     → length keys ≡ capacity * key_width → leaves head elems shared written said ≡ step st keys (list k)

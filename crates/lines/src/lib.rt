@@ -5,6 +5,6 @@ mod obey;
 mod stream;
 
 pub use obey::obey_bytes;
-pub use stream::{Gathered, gather};
+pub use stream::{hold, split_line};
 pub use told::Obeyed;
 pub use words::{Line, read_line};

@@ -8,7 +8,7 @@ ghost use Rattle.words.specs.Lines.{reply_of};
 ghost use Rattle.lines.specs.Obeys.{reply_most, Obeys, ObeysLine};
 
 use rules::{Head, Refusal};
-use told::{Obeyed, put_refusal, put_ring, put_text, tell_inserted, tell_joined, tell_removed};
+use told::{Obeyed, put_refusal, put_ring, put_text, tell};
 use words::{Line, read_line};
 
 // What is printed goes into `out` from `at` on; `keys` is lent to list a ring.
@@ -19,44 +19,44 @@ pub fn obey_line(
     keys: &mut [u64],
     out: &mut [u8],
     at: usize,
-    line: Line,
+    line: Option<Line>,
 ) -> Obeyed
     requires { Ready (state_of head elems.old shared.old) × (length keys.old ≡ capacity * key_width) × (at + reply_most ≤ length out.old) }
     ensures { Obeys (reply_of (state_of head elems.old shared.old) line) (state_of result.head elems.new shared.new) out.old at out.new result.next }
 {
+    let Some(line) = line else {
+        let next = put_refusal(out, at, Refusal::Malformed);
+        return Obeyed { head, next };
+    };
     match line {
         Line::NewRun {
             payload,
             value,
             size,
         } => {
-            let r = inserts::insert_surject(head, elems, shared, payload, value, size);
-            tell_inserted(out, at, r)
+            let new_run = inserts::insert_surject(head, elems, shared, payload, value, size);
+            tell(out, at, head, new_run)
         }
         Line::Insert {
             target,
             payload,
             size,
         } => {
-            let r = inserts::insert(head, elems, shared, target, payload, size);
-            tell_inserted(out, at, r)
+            let inserted = inserts::insert(head, elems, shared, target, payload, size);
+            tell(out, at, head, inserted)
         }
         Line::Union { first, second } => {
-            let r = unions::union(head, elems, shared, first, second);
-            tell_joined(out, at, r)
+            let joined = unions::union(head, elems, shared, first, second);
+            tell(out, at, head, joined)
         }
         Line::List(key) => {
-            let answer = rings::list(head, elems, shared, key, keys);
-            let next = put_ring(out, at, answer, keys);
+            let size = rings::list(head, elems, shared, key, keys);
+            let next = put_ring(out, at, size, keys);
             Obeyed { head, next }
         }
         Line::Remove(key) => {
-            let r = removes::remove_element(head, elems, shared, key);
-            tell_removed(out, at, r)
-        }
-        Line::Malformed => {
-            let next = put_refusal(out, at, Refusal::Malformed);
-            Obeyed { head, next }
+            let removed = removes::remove_element(head, elems, shared, key);
+            tell(out, at, head, removed)
         }
     }
 }

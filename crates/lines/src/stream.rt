@@ -1,49 +1,25 @@
 // Lines found in an input that comes block by block.
-ghost use Rattle.std.specs.Prelude.{◌≤◌, length};
-ghost use Rattle.lines.specs.Stream.{Keeps, Gathers};
+ghost use Rattle.std.specs.Prelude.{◌≤◌, ◌<◌, ◌≡◌, [], ◌∷◌, length, MatchOption};
+ghost use Rattle.rules.specs.Script.{newline, pieces};
+ghost use Rattle.lines.specs.Stream.{Keeps};
 
-// What was found: the place after it, how many bytes of the line are held, and whether the line is whole.
-#[derive(Clone, Copy)]
-pub struct Gathered {
-    pub next: usize,
-    pub held: usize,
-    pub whole: bool,
-}
+use told::put_text;
+use words::find;
 
-// A byte more of a line; one for which there is no room is passed over.
-fn keep(line: &mut [u8], held: usize, b: u8) -> usize
+// A part of a line comes after the `held` bytes of it; bytes for which there is no room are passed over.
+pub fn hold(line: &mut [u8], held: usize, part: &[u8]) -> usize
     requires { held ≤ length line.old }
-    ensures { Keeps line.old held b line.new result }
+    ensures { Keeps line.old held part.now line.new result }
 {
-    if held < line.len() {
-        line[held] = b;
-        return held + 1;
-    }
-    held
+    let kept = part.len().min(line.len() - held);
+    put_text(line, held, &part[..kept])
 }
 
-// The bytes of a block from `at` on, up to a newline, come after the `held` ones of a line.
-pub fn gather(block: &[u8], at: usize, line: &mut [u8], held: usize) -> Gathered
-    requires { (at ≤ length block.now) × (held ≤ length line.old) }
-    ensures { Gathers block.now at line.old held line.new result }
+// What comes before the first newline of a block and what comes after it, if the block has one.
+pub fn split_line(block: &[u8]) -> Option<(&[u8], &[u8])>
+    ensures { MatchOption result (pieces newline block.now ≡ block.now ∷ [])
+        (λ split. (pieces newline block.now ≡ split.0.now ∷ pieces newline split.1.now) × (length split.1.now < length block.now)) }
 {
-    let mut i = at;
-    let mut kept = held;
-    while i < block.len() {
-        let b = block[i];
-        if b == b'\n' {
-            return Gathered {
-                next: i + 1,
-                held: kept,
-                whole: true,
-            };
-        }
-        kept = keep(line, kept, b);
-        i += 1;
-    }
-    Gathered {
-        next: i,
-        held: kept,
-        whole: false,
-    }
+    let end = find(block, b'\n')?;
+    Some((&block[..end], &block[end + 1..]))
 }

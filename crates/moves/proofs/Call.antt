@@ -1,5 +1,5 @@
 -- The call: refused 5 or 6 with nothing changed; an empty source left alone; or both sides as the rule says.
-use Rattle.std.specs.Prelude.{◌==◌}
+use Rattle.std.specs.Prelude.{◌==◌, Ok, Err}
 use mathlib.Core.Path.{◌≡◌, refl, sym, ap, ◌∙◌}
 use mathlib.Core.Logic.{◌≢◌}
 use mathlib.Core.Bool.{Bool, true, false}
@@ -8,8 +8,6 @@ use Prim.Native.Nat.{ℕ, ◌*◌, ◌-◌, ◌≤◌}
 use native.Mathlib.Omega.{arith}
 use lib.ListN.{length, replicate, get_or-eq_default}
 use Rattle.rules.specs.declared.Head.{Head}
-use Rattle.rules.specs.declared.HeadsDone.{HeadsDone}
-use Rattle.rules.specs.declared.Done.TheVariants as done
 use Rattle.rules.specs.declared.Refusal.{Refusal}
 use Rattle.rules.specs.Notation.{flat}
 use Rattle.rules.specs.Tables.{last_generation, frame_width, header_width, blank, State, state_of}
@@ -72,20 +70,24 @@ module _ (to of : State) (g : ℕ) where
   b = to.head.shared.capacity
 
   -- a refusal told by the code is the rule's
-  pub refusing : (why : Refusal) (r : HeadsDone) → r ≡ record { head = to.head; source = of.head; answer = done.Refused why; over = false } → transfer to of g ≡ refuse why → after_both r to.elems to.shared of.elems of.shared ≡ transfer_step to of g
-  refusing why r e q = rw (e, q)
+  pub refusing : (why : Refusal) → transfer to of g ≡ refuse why → after_both to.head of.head (Err why) to.elems to.shared of.elems of.shared ≡ transfer_step to of g
+  refusing why q = rw q
 
   module _ (F : Fitting to of g) where
-    pub move-empty : Ready of → of.head.elems.live ≡ 0 → (h : Head) (e s : List ℕ) → state_of h e s ≡ empty a b g → after_both (record { head = h; source = of.head; answer = done.Done; over = false }) e s of.elems of.shared ≡ transfer_step to of g
-    move-empty R z h e s q = (λ i. record { said = said_accepted [] false; target = (q ∙ sym (renumbered-none of (working of R) z a b g)) i; source = of }) ∙ ap (two_outcome to of) (sym (Moving.move-none to of g F z))
+    pub move-empty : (k : ℕ) → k ≡ g → Ready of → of.head.elems.live ≡ 0 → (h : Head) (e s : List ℕ) → state_of h e s ≡ empty a b k
+        → after_both to.head of.head (Ok (record { head = h; source = of.head; over = false })) e s of.elems of.shared ≡ transfer_step to of g
+    move-empty k is R z h e s q =
+        (λ i. record { said = said_accepted [] false; target = (q ∙ ap (empty a b) is ∙ sym (renumbered-none of (working of R) z a b g)) i; source = of }) ∙ ap (two_outcome to of) (sym (Moving.move-none to of g F z))
 
-    pub move-done : Ready of → of.head.elems.live ≢ 0 → (e s fr : List ℕ) → length to.elems ≡ a * frame_width → length to.shared ≡ b * header_width → Landed to.elems to.shared of g e s fr
-        → (hd₀ : Head) → hd₀ ≡ record { elems = packed_in a of.head.elems.live; shared = packed_in b of.head.shared.live; generation = g; undo = blank }
+    pub move-done : (k : ℕ) → k ≡ g → Ready of → of.head.elems.live ≢ 0 → (e s fr : List ℕ) → length to.elems ≡ a * frame_width → length to.shared ≡ b * header_width → Landed to.elems to.shared of k e s fr
+        → (hd₀ : Head) → hd₀ ≡ record { elems = packed_in a of.head.elems.live; shared = packed_in b of.head.shared.live; generation = k; undo = blank }
         → (hd : Head) (fr' hs : List ℕ) (n : ℕ) (over : Bool) → n ≡ raised of.head.generation → over ≡ (of.head.generation == last_generation) → state_of hd fr' hs ≡ empty of.head.elems.capacity of.head.shared.capacity n
-        → after_both (record { head = hd₀; source = hd; answer = done.Done; over = over }) e s fr' hs ≡ transfer_step to of g
+        → after_both to.head of.head (Ok (record { head = hd₀; source = hd; over = over })) e s fr' hs ≡ transfer_step to of g
     unfolding renumbered_in cleared overflows
-    move-done R live e s fr x y L hd₀ p hd fr' hs n over w o z =
-        (λ i. record { said = said_accepted [] (o i); target = state_of (p i) (L.elems a b x F.elems i) (L.shared a b y F.shared i); source = (z ∙ ap (empty of.head.elems.capacity of.head.shared.capacity) w) i })
+    move-done k is R live e s fr x y L hd₀ p hd fr' hs n over w o z =
+        let M = rw is at L in
+        let q = rw is at p in
+        (λ i. record { said = said_accepted [] (o i); target = state_of (q i) (M.elems a b x F.elems i) (M.shared a b y F.shared i); source = (z ∙ ap (empty of.head.elems.capacity of.head.shared.capacity) w) i })
         ∙ ap (two_outcome to of) (sym (Moving.move_some to of g F live))
 
 pub fitting : (to of : State) (g : ℕ) → 1 ≤ g → g ≤ last_generation → of.head.elems.live ≤ to.head.elems.capacity → of.head.shared.live ≤ to.head.shared.capacity → Fitting to of g

@@ -2,8 +2,7 @@
 // Ported from transfer_canonical_reallocating of surject_arena.rs (triple_arena 0.15.1, NOTICE).
 #![tactic(auto)]
 
-ghost use Rattle.std.specs.Prelude.{◌≡◌, true, false};
-ghost use Rattle.rules.specs.declared.Done.TheVariants as done;
+ghost use Rattle.std.specs.Prelude.{◌≡◌, true};
 ghost use Rattle.rules.specs.Tables as tables;
 ghost use Rattle.rules.specs.Tables.{state_of};
 ghost use Rattle.rules.specs.Compress.{packed_in};
@@ -17,7 +16,7 @@ use clones::copy_row;
 use copies::zero;
 use gather::gather;
 use place::fill;
-use rules::{BLANK, CLASS, COUNT, Done, FRAME, HEADER, Head, HeadsDone, Pool, Refusal};
+use rules::{BLANK, CLASS, COUNT, FRAME, HEADER, Head, Moved, Pool, Refusal};
 use slots::get;
 use wipes::blank;
 
@@ -57,35 +56,13 @@ fn land(
     zero(shared, runs * HEADER, rest);
 }
 
-// Refusals, below the table: nothing moves.
-pub fn stays(head: Head, source: Head, why: Refusal) -> HeadsDone
-    ensures { result ≡ record { head = head; source = source; answer = done.Refused why; over = false } }
-{
-    HeadsDone {
-        head,
-        source,
-        answer: Done::Refused(why),
-        over: false,
-    }
-}
-
 // Extents are the live numbers and roots 0; nothing is left to undo.
 fn packed(room: u64, live: u64, places: u64, runs: u64, generation: u64) -> Head
     ensures { result ≡ record { elems = packed_in room live; shared = packed_in places runs; generation = generation; undo = tables.blank } }
 {
     Head {
-        elems: Pool {
-            capacity: room,
-            extent: live,
-            root: 0,
-            live,
-        },
-        shared: Pool {
-            capacity: places,
-            extent: runs,
-            root: 0,
-            live: runs,
-        },
+        elems: Pool::packed(room, live),
+        shared: Pool::packed(places, runs),
         generation,
         undo: BLANK,
     }
@@ -100,32 +77,31 @@ pub fn transfer_canonical(
     source: Head,
     frames: &mut [u64],
     headers: &mut [u64],
-) -> HeadsDone
+) -> Result<Moved, Refusal>
     requires { (shaped (state_of head elems.old shared.old) ≡ true) × Ready (state_of source frames.old headers.old) }
-    ensures { after_both result elems.new shared.new frames.new headers.new ≡ transfer_step (state_of head elems.old shared.old) (state_of source frames.old headers.old) generation }
+    ensures { after_both head source result elems.new shared.new frames.new headers.new ≡ transfer_step (state_of head elems.old shared.old) (state_of source frames.old headers.old) generation }
 {
     if generation == 0 {
-        return stays(head, source, Refusal::OutOfRange);
+        return Err(Refusal::OutOfRange);
     }
     let room = head.elems.capacity;
     let live = source.elems.live;
     if room < live {
-        return stays(head, source, Refusal::NoElement);
+        return Err(Refusal::NoElement);
     }
     let places = head.shared.capacity;
     let runs = source.shared.live;
     if places < runs {
-        return stays(head, source, Refusal::NoShared);
+        return Err(Refusal::NoShared);
     }
-    let given = generation as u64;
+    let given = u64::from(generation);
     if live == 0 {
         let none = blank(room, places, given, elems, room, shared, places);
-        return HeadsDone {
+        return Ok(Moved {
             head: none,
             source,
-            answer: Done::Done,
             over: false,
-        };
+        });
     }
     land(elems, shared, source, frames, headers, given);
     let slots = source.elems.capacity;
@@ -135,10 +111,9 @@ pub fn transfer_canonical(
     let used = source.elems.extent;
     let classed = source.shared.extent;
     let left = blank(slots, classes, after, frames, used, headers, classed);
-    HeadsDone {
+    Ok(Moved {
         head: packed(room, live, places, runs, given),
         source: left,
-        answer: Done::Done,
         over: next.over,
-    }
+    })
 }

@@ -1,6 +1,6 @@
 -- The call: refused 7 with nothing changed, or accepted with what the passes leave.
-use Rattle.std.specs.Prelude.{if◌then◌else◌, ◌==◌}
-use mathlib.Core.Path.{◌≡◌, refl, sym, ap, ◌∙◌}
+use Rattle.std.specs.Prelude.{◌==◌, Ok, Err}
+use mathlib.Core.Path.{◌≡◌, sym, ◌∙◌}
 use mathlib.Core.Bool.{Bool, ◌&&◌, not}
 use mathlib.Core.List.{List, [], ◌∷◌, ◌++◌, map}
 use Prim.Native.Nat.{ℕ, suc, ◌*◌, ◌≤◌, ◌<◌}
@@ -10,8 +10,8 @@ use Rattle.rules.specs.declared.Head.{Head}
 use Rattle.rules.specs.declared.Refusal.TheVariants.{Short}
 use Rattle.rules.specs.Notation.{◌<?◌, flat}
 use Rattle.rules.specs.Tables.{blank, last_generation, State, state_of, elem_side, shared_side}
-use Rattle.rules.specs.Refusals.{said_refused, said_accepted}
-use Rattle.rules.specs.Answers.{leaves}
+use Rattle.rules.specs.Refusals.{said_accepted}
+use Rattle.rules.specs.Answers.{leaves, one_value, after}
 use Rattle.rules.specs.Slots.{overflows}
 use Rattle.rules.specs.Calls.{Ready, step, compress_with}
 use Rattle.rules.specs.Compress.{packed, renumbered_in, renumbered, generation_after, live_slots, pair_width, key_pair}
@@ -38,7 +38,7 @@ module _ (st : State) (lent : List ℕ) (reset : Bool) where
   pub need_small : Ready st → st.head.elems.live * pair_width ≤ 262144
   need_small R = let s = safe st R in omega (arith, s.elems.pool.live, s.elems.pool.within, s.elems.pool.small)
 
-  pub with_short : length lent < st.head.elems.live * pair_width → leaves st.head st.elems st.shared lent (said_refused Short) ≡ step st lent (compress_with reset)
+  pub with_short : length lent < st.head.elems.live * pair_width → after one_value st.head (Err Short) st.elems st.shared lent ≡ step st lent (compress_with reset)
   unfolding rule.compress_with
   with_short h = rw (is_true (length lent <? need) (le_is (suc (length lent)) need) h)
 
@@ -54,7 +54,7 @@ module _ (st : State) (lent : List ℕ) (reset : Bool) where
   pub with_is : Ready st → st.head.elems.live * pair_width ≤ length lent → (g : ℕ) → g ≡ generation_after reset st.head.generation → (e s out : List ℕ) → Told st.elems lent g st.head.elems.extent out
       → state_of st.head e s ≡ state_of st.head (to g).elems (to g).shared
       → (h : Head) → h ≡ record { elems = packed st.head.elems; shared = packed st.head.shared; generation = g; undo = blank } → (over : Bool) → over ≡ (not reset && (st.head.generation == last_generation))
-      → leaves h e s out (said_accepted (st.head.elems.live ∷ []) over) ≡ step st lent (compress_with reset)
+      → after one_value st.head (Ok (record { head = h; answer = st.head.elems.live; over = over })) e s out ≡ step st lent (compress_with reset)
   with_is R room g same e s out T S h q over o =
       (λ i. leaves (head-is g h q i) (S i).elems (S i).shared (pairs_final st R g lent out room T i) (said_accepted (st.head.elems.live ∷ []) (o i)))
       ∙ sym (with_done room g same)

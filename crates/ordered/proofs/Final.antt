@@ -2,29 +2,26 @@
 use mathlib.Core.Path.{◌≡◌, refl, sym, ap, ◌∙◌}
 use mathlib.Core.Logic.{◌≢◌}
 use mathlib.Core.List.{List, [], ◌∷◌, ◌++◌, map}
-use Prim.Native.Nat.{ℕ, zero, suc, ◌+◌, ◌*◌, ◌-◌, ◌≤◌, ◌<◌}
-use native.Mathlib.Nat.{mul-le-mul_right}
+use Prim.Native.Nat.{ℕ, zero, suc, ◌*◌, ◌-◌, ◌≤◌, ◌<◌}
 use native.Mathlib.Omega.{arith}
 use native.Mathlib.Decide.{ℕ_discrete, dec_lt, dec_le}
 use lib.ListN.{length, get_or, drop}
 use Rattle.rules.specs.Notation.{flat}
-use Rattle.rules.specs.Tables.{most_slots, frame_width, header_width, frame_at, header_at, cell, generation_of, payload_of, class_of, previous_of, next_of, count_of, next_free_of, State, Side, field_of, elem_side, shared_side}
+use Rattle.rules.specs.Tables.{frame_width, header_width, frame_at, header_at, cell, generation_of, count_of, next_free_of, State, Side, field_of, elem_side, shared_side}
 use Rattle.rules.specs.Calls.{Ready}
 use Rattle.rules.specs.Compress.{place_of, live_slots, moved_frame, moved_header, renumbered, pair_width, key_pair}
 use Rattle.rules.proofs.Laws.Lists.{all-at}
 use Rattle.rules.proofs.Laws.Columns.{cell-none, cell_out}
 use Rattle.rules.proofs.Laws.Pools.{Pooled, lives, live_in}
-use Rattle.rules.proofs.Laws.Count.{lives_le}
 use Rattle.rules.proofs.Laws.Working.{View, view, Working}
 use Rattle.rules.proofs.Laws.Soundness.{Shaped, shaped_of}
 use Rattle.rules.proofs.Laws.Safe.{working}
-use Rattle.rules.proofs.Laws.Places.{in_at, place_at, upto, upto_is, cells_ext}
-use Rattle.rules.proofs.Laws.Order.{Listed}
+use Rattle.rules.proofs.Laws.Places.{in_at, place_at, upto_is, cells_ext}
 use Rattle.rules.proofs.Laws.Compress.{listed_live, live-fits, frame_column, header_column, renumbered_lengths}
 use Rattle.rules.proofs.Laws.Ranks.{live_listed, place-lives, lives-alike, lives-some}
 use Rattle.rules.proofs.Laws.Written.{rows_then}
 use Rattle.slots.specs.Asked.{Within}
-use Rattle.ranks.specs.Passes.{Fields, Ranked, Followed, Renameable, Renamed, Settled, Room, Told}
+use Rattle.ranks.specs.Passes.{Fields, Ranked, Renameable, Renamed, Settled, Room, Told}
 
 -- ---- one table, its live slots in order
 module _ (t : Side) {n : ℕ → ℕ} (P : Pooled t.pool (field_of t t.used) n) where

@@ -4,15 +4,13 @@
 
 ghost use Rattle.std.specs.Prelude.{◌≡◌};
 ghost use Rattle.rules.specs.Tables.{state_of, elem_side, shared_side};
-ghost use Rattle.rules.specs.Answers.{after_number};
+ghost use Rattle.rules.specs.Answers.{one_value, after};
 ghost use Rattle.rules.specs.Calls.{Ready, step, compress_with};
 ghost use Rattle.rules.specs.Compress.{renumbered, live_slots};
 
 use compress::{pack, renew};
-use ranks::{PAIR_WIDTH, rank, rename, settle, tell};
-use rules::{
-    BLANK, COUNT, FRAME, GENERATION, HEADER, Head, HeadNumber, NEXT_FREE, Number, Refusal,
-};
+use ranks::{FRAMES, HEADERS, PAIR_WIDTH, rank, rename, settle, tell};
+use rules::{Head, Refusal, Step};
 
 // Both tables. Every frame gets a new generation, and a live header's next free number is 0: they hold the ranks meanwhile.
 fn renumber(head: Head, elems: &mut [u64], shared: &mut [u64], generation: u64)
@@ -21,11 +19,11 @@ fn renumber(head: Head, elems: &mut [u64], shared: &mut [u64], generation: u64)
 {
     let frames = head.elems.extent;
     let headers = head.shared.extent;
-    rank(elems, FRAME, GENERATION, GENERATION, frames);
-    rank(shared, HEADER, COUNT, NEXT_FREE, headers);
+    rank(elems, FRAMES, frames);
+    rank(shared, HEADERS, headers);
     rename(elems, shared, frames);
-    settle(elems, FRAME, GENERATION, GENERATION, generation, frames);
-    settle(shared, HEADER, COUNT, NEXT_FREE, 0, headers);
+    settle(elems, FRAMES, generation, frames);
+    settle(shared, HEADERS, 0, headers);
 }
 
 // Ticket 3: live frames move down in slot order, headers in their own; a pair of old key and new key for each frame.
@@ -35,33 +33,25 @@ pub fn compress_with(
     shared: &mut [u64],
     pairs: &mut [u64],
     reset: bool,
-) -> HeadNumber
+) -> Result<Step<u64>, Refusal>
     requires { Ready (state_of head elems.old shared.old) }
-    ensures { after_number result elems.new shared.new pairs.new ≡ step (state_of head elems.old shared.old) pairs.old (compress_with reset) }
+    ensures { after one_value head result elems.new shared.new pairs.new ≡ step (state_of head elems.old shared.old) pairs.old (compress_with reset) }
 {
     let live = head.elems.live;
     if (pairs.len() as u64) < live * PAIR_WIDTH {
-        return HeadNumber {
-            head,
-            answer: Number::Refused(Refusal::Short),
-            over: false,
-        };
+        return Err(Refusal::Short);
     }
     let next = renew(head, reset);
     let generation = next.head.generation;
-    let slots = head.elems.extent;
-    tell(elems, pairs, generation, slots);
+    tell(elems, pairs, generation, head.elems.extent);
     renumber(head, elems, shared, generation);
-    let frames = pack(head.elems);
-    let headers = pack(head.shared);
-    HeadNumber {
+    Ok(Step {
         head: Head {
-            elems: frames,
-            shared: headers,
-            generation,
-            undo: BLANK,
+            elems: pack(head.elems),
+            shared: pack(head.shared),
+            ..next.head
         },
-        answer: Number::Is(live),
+        answer: live,
         over: next.over,
-    }
+    })
 }

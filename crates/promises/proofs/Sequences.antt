@@ -15,8 +15,7 @@ use Rattle.rules.specs.Slots
 use Rattle.rules.specs.Slots.{is_full}
 use Rattle.rules.specs.Runs
 use Rattle.rules.specs.Calls.{Call, len_surject, in_same_surject, get_element, get_shared, get_size, get_total, lookup, set_element, set_shared, check, new_run, insert, union, remove, remove_shared, list, drain, seal, drain_all, clear, undo, exchange, compress, compress_with, write_file, step, fresh_step, AtDoor}
-use Rattle.rules.specs.Bytes.{Bytes}
-use Rattle.rules.specs.ReadFile.{read_file, old_reader, read_step, runs_of}
+use Rattle.rules.specs.ReadFile.{read_step, runs_of}
 use Rattle.rules.specs.RunFile.{StoredRun}
 use Rattle.rules.specs.History.{History, accepted, noted, noted_fresh, nothing, begun_with, read_into, noted_read, moved_into, noted_to, noted_from}
 use Rattle.rules.specs.Demand.{After, start, fresh, call, start_read, read, copy, Union, start_move, move_to, move_from}

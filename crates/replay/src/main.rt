@@ -3,68 +3,40 @@
 #![tactic(auto)]
 
 mod calls;
-mod frames;
-mod whole;
+mod recorder;
 
-use heads::{pack, unpack};
-use std::io::{Read, Stdin, Stdout};
+use recorder::Recorder;
+use sample::Record;
+use std::io;
+use std::io::{Read, Stdin};
 
-// Replays the next record, and answers whether to go on.
-fn replay_one(
-    mut from: Stdin,
-    to: Stdout,
-    head: &mut [u64; 13],
-    elems: &mut [u64; 96],
-    shared: &mut [u64; 80],
-    given: &mut [u64; 512],
-    made: &mut u64,
-) -> bool {
-    let mut record = [0u8; 32];
-    if from.read_exact(&mut record).is_err() {
-        return false;
-    }
-    let next = calls::make(unpack(*head), elems, shared, given, &record);
-    let after = next.head;
-    *head = pack(after);
-    if !next.same {
-        return differs(to);
-    }
-    if *made < 1000000 {
-        *made += 1;
-    }
-    true
+// The most calls that are counted.
+const MOST: u64 = 1000000;
+
+// The next record, or none at the sample's end.
+fn next_record(mut from: Stdin) -> Option<Record> {
+    let mut bytes = [0; 32];
+    from.read_exact(&mut bytes).ok()?;
+    Some(Record { bytes })
 }
 
-fn differs(to: Stdout) -> bool {
-    let _ = print!(to; "A CALL DIFFERS: ");
-    false
+// The number of calls made, with one more.
+fn one_more(made: u64) -> u64 {
+    if made < MOST { made + 1 } else { made }
 }
 
-fn tell(to: Stdout, made: u64) {
-    let _ = println!(to; "{made} calls said what the sample says");
-}
-
-fn main(rt: HostRuntime) {
-    let from = rt.stdin();
-    let to = rt.stdout();
-    let mut head = [0u64; 13];
-    let mut elems = [0u64; 96];
-    let mut shared = [0u64; 80];
-    let mut given = [0u64; 512];
-    let mut made: u64 = 0;
-    let mut turns = u64::MAX;
-    while turns > 0
-        && replay_one(
-            from,
-            to,
-            &mut head,
-            &mut elems,
-            &mut shared,
-            &mut given,
-            &mut made,
-        )
-    {
-        turns -= 1;
+fn main(rt: HostRuntime) -> io::Result<()> {
+    let mut recorder = Recorder::new();
+    let mut made = 0;
+    for _ in 0..u64::MAX {
+        let Some(record) = next_record(rt.stdin()) else {
+            break;
+        };
+        if !recorder.replay(&record) {
+            print!(rt; "A CALL DIFFERS: ")?;
+            break;
+        }
+        made = one_more(made);
     }
-    tell(to, made);
+    println!(rt; "{made} calls said what the sample says")
 }

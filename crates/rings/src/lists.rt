@@ -6,8 +6,7 @@ ghost use Rattle.rules.specs.Drains.{key_width};
 ghost use Rattle.rules.specs.Calls as calls;
 ghost use Rattle.rules.specs.Calls.{Ready, step};
 ghost use Rattle.rules.specs.Answers.{one_value, leaves, said};
-ghost use Rattle.slots.specs.Asked.{Within, Along};
-ghost use Rattle.slots.specs.Asked.{OnLive};
+ghost use Rattle.slots.specs.Asked.{Within, Along, OnLive};
 ghost use Rattle.rings.specs.Answered.{keys_along};
 
 use rules::{CLASS, COUNT, FRAME, GENERATION, HEADER, Head, Key, NEXT, Refusal};
@@ -24,14 +23,13 @@ pub fn size_at(head: Head, elems: &[u64], shared: &[u64], x: u64) -> u64
     slots::get(shared, HEADER, COUNT, class)
 }
 
-// A key is written at a place, counted from 1.
-#[tactic(auto, using(slots::proofs::Places::row_puts))]
-fn write_key(out: &mut [u64], place: u64, slot: u64, generation: u64)
-    requires { Within key_width out.old place }
-    ensures { out.new ≡ row key_width out.old place (slot ∷ generation ∷ []) }
+// So many numbers are written at a place, counted from 1: those of a key, a seal or a record.
+pub fn write_place<const WIDTH: usize>(out: &mut [u64], place: u64, numbers: [u64; WIDTH])
+    requires { Within WIDTH out.old place }
+    ensures { out.new ≡ row WIDTH out.old place numbers.entry }
 {
-    slots::put(out, KEY_WIDTH, place, 0, slot);
-    slots::put(out, KEY_WIDTH, place, 1, generation);
+    let start = (place as usize - 1) * WIDTH;
+    out[start..start + WIDTH].copy_from_slice(&numbers);
 }
 
 // The keys of `n` frames along next from `x` are written, from the first place on.
@@ -42,7 +40,7 @@ fn write_keys(elems: &[u64], n: u64, x: u64, out: &mut [u64])
     let mut at = x;
     for written in 0..n {
         let generation = slots::get(elems, FRAME, GENERATION, at);
-        write_key(out, written + 1, at, generation);
+        write_place(out, written + 1, [at, generation]);
         at = slots::get(elems, FRAME, NEXT, at);
     }
 }

@@ -1,15 +1,12 @@
 -- What a record of the sample says of a call: the refusal and the answers (rust/differential/src/sample.rs).
-use Rattle.std.specs.Prelude.{ℕ, ◌+◌, ◌*◌, ◌-◌, ◌<◌, ◌≡◌, Bool, true, false, List, [], ◌∷◌, Option, Some, None, get_or}
+use Rattle.std.specs.Prelude.{ℕ, ◌+◌, ◌*◌, ◌-◌, ◌<◌, ◌≡◌, Bool, true, false, List, [], ◌∷◌, Option, Some, None, Result, Ok, Err, get_or}
 use Rattle.rules.specs.declared.Key.{Key}
 use Rattle.rules.specs.declared.Joined.{Joined}
-use Rattle.rules.specs.declared.Joined.TheVariants as joined
-use Rattle.rules.specs.declared.Number.{Number}
-use Rattle.rules.specs.declared.Number.TheVariants as number
+use Rattle.rules.specs.declared.Refusal.{Refusal}
 use Rattle.rules.specs.declared.Removed.{Removed}
-use Rattle.rules.specs.declared.Removed.TheVariants as removed
 use Rattle.rules.specs.declared.Rest.{Rest}
 use Rattle.rules.specs.declared.Rest.TheVariants as rest
-use Rattle.rules.specs.Refusals.{Said, said_refused, said_accepted}
+use Rattle.rules.specs.Refusals.{Said, said_refused}
 
 -- the refusal's number, 0 where the call was accepted; how many answers; the answer at a place
 abbrev pub refusal_of : List ℕ → ℕ
@@ -36,9 +33,8 @@ abbrev pub rest_answers : Rest → List ℕ
 rest_answers rest.GoesOn = 0 ∷ 0 ∷ []
 rest_answers (rest.Last value) = 1 ∷ value ∷ []
 
-abbrev pub removed_answers : Removed → Said
-removed_answers (removed.Out payload others) = said_accepted (payload ∷ rest_answers others) false
-removed_answers (removed.Refused r) = said_refused r
+abbrev pub removed_answers : Removed → List ℕ
+removed_answers r = r.payload ∷ rest_answers r.rest
 
 -- ---- keys: in the sample a frame has a number, and a key is kept for each as it is given
 
@@ -46,15 +42,15 @@ abbrev pub key_of : (given : List (Option Key)) (frame : ℕ) → Option Key
 key_of given frame = get_or given frame None
 
 -- union: the value that was, the kept key, told as its frame, and how many frames moved
-pub record JoinsAs (was : ℕ) (kept : Key) (moved : ℕ) (given : List (Option Key)) (sample : List ℕ) : Type 0 where
+pub record JoinsAs (union : Joined) (given : List (Option Key)) (sample : List ℕ) : Type 0 where
   pub accepted : 0 ≡ refusal_of sample
-  pub value : was ≡ answer_at sample 0
-  pub key : Some kept ≡ key_of given (answer_at sample 1)
-  pub frames : moved ≡ answer_at sample 2
+  pub value : union.was ≡ answer_at sample 0
+  pub key : Some union.kept ≡ key_of given (answer_at sample 1)
+  pub frames : union.moved ≡ answer_at sample 2
 
-abbrev pub JoinedAs : Joined → (given : List (Option Key)) (sample : List ℕ) → Type 0
-JoinedAs (joined.Into was kept moved) given sample = JoinsAs was kept moved given sample
-JoinedAs (joined.Refused r) given sample = Agrees (said_refused r) sample
+abbrev pub JoinedAs : Result Joined Refusal → (given : List (Option Key)) (sample : List ℕ) → Type 0
+JoinedAs (Ok union) given sample = JoinsAs union given sample
+JoinedAs (Err r) given sample = Agrees (said_refused r) sample
 
 -- a frame's key stands at a place of what was written
 abbrev pub key_at : (written : List ℕ) (at : ℕ) → Key
@@ -73,9 +69,9 @@ pub record ListsAs (n : ℕ) (written : List ℕ) (given : List (Option Key)) (s
   pub count : n ≡ count_of sample
   pub ring : RingOf n 2 written given sample
 
-abbrev pub ListedAs : Number → (written : List ℕ) (given : List (Option Key)) (sample : List ℕ) → Type 0
-ListedAs (number.Is n) written given sample = ListsAs n written given sample
-ListedAs (number.Refused r) written given sample = Agrees (said_refused r) sample
+abbrev pub ListedAs : Result ℕ Refusal → (written : List ℕ) (given : List (Option Key)) (sample : List ℕ) → Type 0
+ListedAs (Ok n) written given sample = ListsAs n written given sample
+ListedAs (Err r) written given sample = Agrees (said_refused r) sample
 
 -- drain: the ring, and then the run's value, which the last record has
 pub record DrainsAs (n : ℕ) (written : List ℕ) (given : List (Option Key)) (sample : List ℕ) : Type 0 where
@@ -84,9 +80,9 @@ pub record DrainsAs (n : ℕ) (written : List ℕ) (given : List (Option Key)) (
   pub value : get_or written (n * 6 - 2) 0 ≡ answer_at sample n
   pub ring : RingOf n 6 written given sample
 
-abbrev pub DrainedAs : Number → (written : List ℕ) (given : List (Option Key)) (sample : List ℕ) → Type 0
-DrainedAs (number.Is n) written given sample = DrainsAs n written given sample
-DrainedAs (number.Refused r) written given sample = Agrees (said_refused r) sample
+abbrev pub DrainedAs : Result ℕ Refusal → (written : List ℕ) (given : List (Option Key)) (sample : List ℕ) → Type 0
+DrainedAs (Ok n) written given sample = DrainsAs n written given sample
+DrainedAs (Err r) written given sample = Agrees (said_refused r) sample
 
 -- a test is passed only where it holds
 abbrev pub OnlyIf : Type 0 → Bool → Type 0

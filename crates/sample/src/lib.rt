@@ -2,13 +2,13 @@
 // (Running against the Rust).
 #![tactic(auto)]
 
-ghost use Rattle.std.specs.Prelude.{◌≡◌, false, IfSome};
+ghost use Rattle.std.specs.Prelude.{◌≡◌, ℕ, List, IfSome};
 ghost use Rattle.rules.specs.Refusals.{said_refused};
-ghost use Rattle.rules.specs.Answers.{said_done, said_number, said_same};
-ghost use Rattle.sample.specs.Sample.{refusal_of, count_of, answer_at, Listed, Agrees, rest_answers, removed_answers, OnlyIf};
+ghost use Rattle.rules.specs.Answers.{said, no_values, one_value, yes_or_no, old_values};
+ghost use Rattle.sample.specs.Sample.{refusal_of, count_of, answer_at, Listed, Agrees, removed_answers, OnlyIf};
 
 use numbers::answers::number_of;
-use rules::{Done, Number, Refusal, Removed, Rest, Same};
+use rules::{Refusal, Removed, Rest};
 
 // Places in a record: the refusal, how many answers, the first answer.
 const REFUSED: usize = 9;
@@ -60,54 +60,72 @@ impl Record {
         number_of(refusal) == u64::from(self.bytes[REFUSED])
     }
 
-    // One number.
-    pub fn is_number(&self, answer: Number) -> bool
-        ensures { OnlyIf (Agrees (said_number answer false) self.now.bytes) result }
+    // The refusal is the record's, or the answer's values are.
+    pub fn is_said<T: Told>(&self, answer: Result<T, Refusal>) -> bool
+        ensures { OnlyIf (Agrees (said T.values answer) self.now.bytes) result }
     {
         match answer {
-            Number::Is(n) => self.is_answer(0, n),
-            Number::Refused(refusal) => self.is_refused(refusal),
+            Ok(told) => told.is_told(self),
+            Err(refusal) => self.is_refused(refusal),
         }
     }
+}
 
-    // An answer that has no values.
-    pub fn is_done(&self, answer: Done) -> bool
-        ensures { OnlyIf (Agrees (said_done answer false) self.now.bytes) result }
-    {
-        match answer {
-            Done::Done => self.is_accepted(),
-            Done::Refused(refusal) => self.is_refused(refusal),
-        }
+// What an accepted call answers.
+pub trait Told {
+    ghost values: { Self → List ℕ };
+
+    // The call was accepted, and the answer's values are the record's.
+    fn is_told(self, sample: &Record) -> bool
+        ensures { OnlyIf ((0 ≡ refusal_of sample.now.bytes) × Listed 0 (values self) sample.now.bytes) result };
+}
+
+impl Told for () {
+    ghost values = { no_values };
+
+    fn is_told(self, sample: &Record) -> bool {
+        sample.is_accepted()
     }
+}
 
-    // Yes or no.
-    pub fn is_same(&self, answer: Same) -> bool
-        ensures { OnlyIf (Agrees (said_same answer) self.now.bytes) result }
-    {
-        match answer {
-            Same::Yes => self.is_answer(0, 1),
-            Same::No => self.is_answer(0, 0),
-            Same::Refused(refusal) => self.is_refused(refusal),
-        }
+impl Told for u64 {
+    ghost values = { one_value };
+
+    fn is_told(self, sample: &Record) -> bool {
+        sample.is_answer(0, self)
     }
+}
 
-    // A removal: the payload, and the rest of the run.
-    pub fn is_removed(&self, answer: Removed) -> bool
-        ensures { OnlyIf (Agrees (removed_answers answer) self.now.bytes) result }
-    {
-        match answer {
-            Removed::Out { payload, rest } => self.is_answer(0, payload) && self.is_rest(rest),
-            Removed::Refused(refusal) => self.is_refused(refusal),
-        }
+// Yes is 1 and no is 0.
+impl Told for bool {
+    ghost values = { yes_or_no };
+
+    fn is_told(self, sample: &Record) -> bool {
+        sample.is_answer(0, u64::from(self))
     }
+}
 
-    // Whether the run goes on without the frame, and its value if not.
-    fn is_rest(&self, rest: Rest) -> bool
-        ensures { OnlyIf (Listed 1 (rest_answers rest) self.now.bytes) result }
-    {
-        match rest {
-            Rest::GoesOn => self.is_answer(1, 0) && self.is_answer(2, 0),
-            Rest::Last(value) => self.is_answer(1, 1) && self.is_answer(2, value),
-        }
+// Four old values, in key order.
+impl Told for [u64; 4] {
+    ghost values = { old_values };
+
+    fn is_told(self, sample: &Record) -> bool {
+        sample.is_answer(0, self[0])
+            && sample.is_answer(1, self[1])
+            && sample.is_answer(2, self[2])
+            && sample.is_answer(3, self[3])
+    }
+}
+
+// A removal: the payload, and whether the run goes on without the frame, with its value if not.
+impl Told for Removed {
+    ghost values = { removed_answers };
+
+    fn is_told(self, sample: &Record) -> bool {
+        let (last, value) = match self.rest {
+            Rest::GoesOn => (0, 0),
+            Rest::Last(value) => (1, value),
+        };
+        sample.is_answer(0, self.payload) && sample.is_answer(1, last) && sample.is_answer(2, value)
     }
 }

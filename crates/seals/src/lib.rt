@@ -12,6 +12,7 @@ ghost use Rattle.slots.specs.Asked.{Within, Along};
 ghost use Rattle.rings.specs.Answered.{places_along};
 ghost use Rattle.seals.specs.Answered.{frame_place};
 
+use rings::lists::write_place;
 use rules::{
     CLASS, COUNT, FRAME, GENERATION, HEADER, Head, Key, MARK, NEXT, PAYLOAD, Refusal, Seal, Step,
     VALUE,
@@ -19,17 +20,6 @@ use rules::{
 
 // Numbers to a place of a seal (docs/LAYOUT.md); in the rules, seal_width.
 pub const SEAL_WIDTH: u64 = 3;
-
-// A frame's key and payload are written at a place, counted from 1.
-#[tactic(auto, using(slots::proofs::Places::row_puts))]
-fn write_place(out: &mut [u64], place: u64, slot: u64, generation: u64, payload: u64)
-    requires { Within seal_width out.old place }
-    ensures { out.new ≡ row seal_width out.old place (slot ∷ generation ∷ payload ∷ []) }
-{
-    slots::put(out, SEAL_WIDTH, place, 0, slot);
-    slots::put(out, SEAL_WIDTH, place, 1, generation);
-    slots::put(out, SEAL_WIDTH, place, 2, payload);
-}
 
 // Keys and payloads of `n` frames along next from `x` are written, from the first place on.
 fn write_places(elems: &[u64], n: u64, x: u64, out: &mut [u64])
@@ -40,7 +30,7 @@ fn write_places(elems: &[u64], n: u64, x: u64, out: &mut [u64])
     for written in 0..n {
         let generation = slots::get(elems, FRAME, GENERATION, at);
         let payload = slots::get(elems, FRAME, PAYLOAD, at);
-        write_place(out, written + 1, at, generation, payload);
+        write_place(out, written + 1, [at, generation, payload]);
         at = slots::get(elems, FRAME, NEXT, at);
     }
 }

@@ -2,19 +2,18 @@
 use mathlib.Core.Path.{◌≡◌, refl, sym, ap, subst, ◌∙◌}
 use mathlib.Core.Logic.{◌≢◌, ◌⊎◌, inl, inr}
 use mathlib.Core.Bool.{true, false}
-use mathlib.Core.List.{List, [], ◌∷◌, ◌++◌}
+use mathlib.Core.List.{List, [], ◌∷◌}
 use Prim.Native.Nat.{ℕ, suc, ◌+◌, ◌-◌, ◌≤◌, ◌<◌}
 use native.Mathlib.Omega.{arith}
 use native.Mathlib.Decide.{ℕ_discrete}
-use lib.ListN.{length, length-append}
+use lib.ListN.{length-append}
 use Rattle.marks.specs.Marks.{marked, Added}
-use Rattle.rules.specs.Tables.{generation_of, class_of, next_of, count_of, total_of, State}
+use Rattle.rules.specs.Tables.{generation_of, class_of, count_of, total_of, State}
 use Rattle.rules.proofs.Laws.Lists.{All, In, Out, NoDup, all-at, all_of, in_parts, in_left, in_right, nodup_append}
 use Rattle.rules.proofs.Laws.Count.{lives_le, fewer}
 use Rattle.rules.proofs.Laws.Rounds.{Within, Fit, Round, went, went_once}
 use Rattle.turns.specs.Turns.{FreeOk}
-use Rattle.sound.specs.Scans.{FrameAt, FirstAt, Run, frames, classes, slots, RunOk, Scan}
-use Rattle.pools.proofs.Ask.{differ}
+use Rattle.sound.specs.Scans.{Run, frames, classes, slots, RunOk, Scan}
 
 -- ---- lists of runs
 pub run_at : (y : ℕ) (rs : List Run) → In y (slots rs) → (r : Run) × In r rs × In y (frames r)
@@ -94,7 +93,7 @@ module _ (st : State) where
     runs = [];
     good = tt;
     fresh = tt;
-    marks = λ c h. absurd (differ (marked seen c) (blank c) h);
+    marks = λ c h. absurd (cc (blank c));
     noted = λ c h. absurd h;
     passed = λ x lo hi l. absurd (omega arith);
     free = λ x lo hi l. absurd (omega arith);
@@ -188,7 +187,7 @@ module _ (st : State) where
           }
         where
           absent : In c (classes z.runs) → ⊥
-          absent k = differ (marked seen (c - 1)) off (z.noted (c - 1) (subst (λ (v : ℕ). In v (classes z.runs)) (sym up) k))
+          absent k = cc (off, z.noted (c - 1) (subst (λ (v : ℕ). In v (classes z.runs)) (sym up) k))
 
           marks : (t : Ran st c (i + 1)) → (d : ℕ) → marked seen' d ≡ true → Dec (d ≡ c - 1) → In (suc d) (classes (t.run ∷ z.runs))
           marks t d o (yes q) = inl (omega (arith, t.class))

@@ -1,23 +1,22 @@
 -- One turn of the scan: what the code read makes of it, and what it makes of the scan; and the scan's end.
-use mathlib.Core.Path.{◌≡◌, refl, sym, ap, subst, ◌∙◌}
-use mathlib.Core.Logic.{◌≢◌}
-use mathlib.Core.Bool.{true, false}
+use mathlib.Core.Path.{◌≡◌, refl, sym, subst}
+use mathlib.Core.Logic.{◌≢◌, ◌⊎◌, inl, inr}
+use mathlib.Core.Bool.{Bool, true, false}
 use mathlib.Core.List.{List}
-use Prim.Native.Nat.{ℕ, ◌+◌, ◌*◌, ◌-◌, ◌≤◌, ◌<◌}
-use native.Mathlib.Nat.{mul-le-mul_right}
-use native.Mathlib.Omega.{arith}
-use lib.ListN.{length}
+use Prim.Native.Nat.{ℕ, ◌+◌, ◌-◌}
 use Rattle.marks.specs.Marks.{marked, Added}
-use Rattle.rules.specs.Tables.{most_slots, generation_of, class_of, count_of, total_of, State}
+use Rattle.rules.specs.Tables.{generation_of, class_of, count_of, total_of, State}
 use Rattle.rules.specs.Sound.{Sound}
 use Rattle.rules.specs.Refusals.{shaped}
+use Rattle.rules.specs.Calls.{Is}
+use Rattle.pools.specs.Pools.{Verdict}
 use Rattle.rules.proofs.Laws.Working.{view, Working}
 use Rattle.rules.proofs.Laws.Rounds.{Within, Round, round_of}
 use Rattle.rules.proofs.Laws.Soundness.{shaped_of, working_of_sound}
 use Rattle.sound.specs.declared.Turn.{Turn}
 use Rattle.sound.specs.declared.Turn.TheVariants.{Free, Seen, First, Wrong}
 use Rattle.turns.specs.Turns.{FreeOk}
-use Rattle.sound.specs.Scans.{Fitting, FrameAt, FirstAt, Turned, Scan, Scanned}
+use Rattle.sound.specs.Scans.{FrameAt, FirstAt, Turned, Scan, Scanned}
 use Rattle.sound.proofs.Scans.{skip-free, skip-seen, take-ring, numbered}
 use Rattle.sound.proofs.Whole.{must_free, must_class, must_met, must_rings}
 
@@ -46,15 +45,19 @@ module _ (st : State) (h : shaped st ≡ true) (x : ℕ) where
 -- ---- what the scan has then
 
 module _ (st : State) (i met rings : ℕ) (seen after : List ℕ) (r : Turn) (z : Scan st i met rings seen) (t : Turned st seen (i + 1) r after) where
-  pub turn_free : r ≡ Free → Scan st (i + 1) met rings after
+  turn_free : r ≡ Free → Scan st (i + 1) met rings after
   turn_free e =
       let f : Turned st seen (i + 1) Free after = subst (λ (r : Turn). Turned st seen (i + 1) r after) e t in
       subst (Scan st (i + 1) met rings) (sym f.2) (skip-free st i met rings seen z f.0 f.1)
 
-  pub turn_seen : r ≡ Seen → Scan st (i + 1) met rings after
+  turn_seen : r ≡ Seen → Scan st (i + 1) met rings after
   turn_seen e =
       let f : Turned st seen (i + 1) Seen after = subst (λ (r : Turn). Turned st seen (i + 1) r after) e t in
       subst (Scan st (i + 1) met rings) (sym f.2) (skip-seen st i met rings seen z (class_of st.elems (i + 1)) f.0.live refl f.0.class.low f.1)
+
+  pub turn_passed : (r ≡ Free) ⊎ (r ≡ Seen) → Scan st (i + 1) met rings after
+  turn_passed (inl e) = turn_free e
+  turn_passed (inr e) = turn_seen e
 
   pub turn_first : (k : ℕ) → r ≡ First k → Scan st (i + 1) (met + k) (rings + 1) after
   turn_first k e =
@@ -65,6 +68,10 @@ module _ (st : State) (i met rings : ℕ) (seen after : List ℕ) (r : Turn) (z 
   turn_wrong e = subst (λ (r : Turn). Turned st seen (i + 1) r after) e t
 
 -- ---- the scan is through
+
+pub verdict_by : {Y N P : Type 0} (r : Bool) → (P → Y) → ((P → ⊥) → N → ⊥) → Is P r → Verdict Y N r
+verdict_by true f g a = f a
+verdict_by false f g a = g a
 
 module _ (st : State) (i met rings : ℕ) (seen : List ℕ) (z : Scan st i met rings seen) (end : i ≡ st.head.elems.extent) where
   all-passed : Scan st st.head.elems.extent met rings seen

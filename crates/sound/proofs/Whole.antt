@@ -2,14 +2,14 @@
 use mathlib.Core.Path.{◌≡◌, refl, sym, ap, subst, ◌∙◌}
 use mathlib.Core.Logic.{◌≢◌, ◌⊎◌, inl, inr}
 use mathlib.Core.List.{List, [], ◌∷◌, map}
-use Prim.Native.Nat.{ℕ, zero, suc, ◌+◌, ◌-◌, ◌*◌, ◌≤◌, ◌<◌}
+use Prim.Native.Nat.{ℕ, zero, suc, ◌+◌, ◌-◌, ◌≤◌, ◌<◌}
 use native.Mathlib.Omega.{arith}
 use native.Mathlib.Decide.{ℕ_discrete, dec_lt}
 use lib.ListN.{length}
 use Rattle.rules.specs.Tables.{last_generation, most_bytes, frame_width, header_width, frame_at, header_at, cell, generation_of, payload_of, class_of, previous_of, next_of, bytes_of, count_of, value_of, next_free_of, mark_of, total_of, State}
 use Rattle.rules.proofs.Laws.Columns.{cell-none}
-use Rattle.rules.proofs.Laws.Lists.{All, In, Walk, all_map, all-at}
-use Rattle.rules.proofs.Laws.Pools.{Pooled, lives, live_in}
+use Rattle.rules.proofs.Laws.Lists.{In, Walk, all_map, all-at}
+use Rattle.rules.proofs.Laws.Pools.{lives, live_in}
 use Rattle.rules.proofs.Laws.Count.{full, exact, lives_le}
 use Rattle.rules.proofs.Laws.Working.{view, Working, Frame, Ring, turn, ring-over, total-none}
 use Rattle.rules.proofs.Laws.Totals.{Sizes, whole, whole-none}

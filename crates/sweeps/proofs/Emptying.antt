@@ -2,11 +2,11 @@
 use Prim.Native.Nat.{ℕ, zero, suc, ◌+◌, ◌*◌, ◌-◌, ◌≤◌, ◌<◌}
 use mathlib.Core.Path.{◌≡◌, refl, sym, ap, ◌∙◌}
 use mathlib.Core.Logic.{◌≢◌, inl, inr}
-use mathlib.Core.Bool.{Bool, true, false}
+use mathlib.Core.Bool.{false}
 use mathlib.Core.List.{List, [], ◌∷◌, ◌++◌, append-nil, append_assoc}
 use native.Mathlib.Omega.{arith}
 use native.Mathlib.Decide.{ℕ_discrete, dec_lt}
-use native.Mathlib.Numerals.{add-one, unary_clauses}
+use native.Mathlib.Numerals.{unary_clauses}
 use borrow.Author.Tests.{le-leb, lt-leb}
 use lib.ListN.{length, get_or, drop, length-append}
 use lib.Seq.{sets, length-sets}
@@ -20,7 +20,7 @@ use Rattle.rules.specs.Runs.{removed}
 use Rattle.rules.specs.Drains.{record_width, drain_records, drained, cleared, lowest, all_records, all_drained, drain_all}
 use Rattle.rules.specs.Calls.{Ready, step}
 use Rattle.rules.specs.Calls as calls
-use Rattle.rules.proofs.Laws.Lists.{All, In, all-at}
+use Rattle.rules.proofs.Laws.Lists.{In, all-at}
 use Rattle.rules.proofs.Laws.Columns.{upd, upd_same, upd_other}
 use Rattle.rules.proofs.Laws.Ascending.{Rising, rising-keep}
 use Rattle.rules.proofs.Laws.Sums.{keep_in, keep_of, up_to-in}
@@ -28,7 +28,7 @@ use Rattle.rules.proofs.Laws.Pools
 use Rattle.rules.proofs.Laws.Count.{exact}
 use Rattle.rules.proofs.Laws.Sides
 use Rattle.rules.proofs.Laws.Working.{View, view}
-use Rattle.rules.proofs.Laws.Safe.{LiveSlot, safe, working}
+use Rattle.rules.proofs.Laws.Safe.{safe, working}
 use Rattle.rules.proofs.Laws.Stored.{Still, still_then}
 use Rattle.rules.proofs.Laws.Remove.{remove_v, removed-on, removed-last, removed-still}
 use Rattle.drains.specs.Asked.{Run}
@@ -93,9 +93,7 @@ run-gone zero st x r = record {
 run-gone (suc n) st x r =
     let R = r.ready in
     let h = used-slot st x (r.live (omega arith)) in
-    let e : suc n - 1 ≡ n = omega arith in
-    let next : Run (removed st x) n (next_of st.elems x) = rw e at (run-next st (suc n) x r (omega arith)) in
-    let g = run-gone n (removed st x) (next_of st.elems x) next in
+    let g = run-gone n (removed st x) (next_of st.elems x) (run-next st n x r) in
     record {
       ready = g.ready;
       still = still_then (removed-still st x) g.still;

@@ -6,13 +6,13 @@ ghost use Rattle.std.specs.Prelude.{◌≡◌, ◌*◌, ◌≤◌, length};
 ghost use Rattle.rules.specs.Tables.{state_of, size_at};
 ghost use Rattle.rules.specs.Drains.{record_width};
 ghost use Rattle.rules.specs.Calls.{Ready, step, drain_all};
-ghost use Rattle.rules.specs.Answers.{after_number};
+ghost use Rattle.rules.specs.Answers.{one_value, after};
 ghost use Rattle.sweeps.specs.Sweep.{Visits, Emptied};
 ghost use Rattle.drains.specs.Answered.{Drained};
 
 use drains::{RECORD_WIDTH, drain_run};
 use rings::lists::size_at;
-use rules::{FRAME, GENERATION, Head, HeadNumber, Number, Refusal};
+use rules::{FRAME, GENERATION, Head, Refusal, Step};
 use wipes::clear;
 
 // The run of a live slot goes, with its records past the first `written` places.
@@ -42,34 +42,28 @@ fn drain_slots(head: Head, elems: &mut [u64], shared: &mut [u64], out: &mut [u64
 {
     let frames = head.elems.live;
     let mut next = head;
-    let mut slot: u64 = 1;
-    while slot <= next.elems.extent {
+    for slot in 1..=head.elems.extent {
         let written = frames - next.elems.live;
         next = drain_slot(next, elems, shared, slot, out, written);
-        slot = slot + 1;
     }
     next
 }
 
 // All runs go, each from its lowest slot; the overflow of the closing clear is not reported.
-pub fn drain_all(head: Head, elems: &mut [u64], shared: &mut [u64], out: &mut [u64]) -> HeadNumber
+pub fn drain_all(
+    head: Head,
+    elems: &mut [u64],
+    shared: &mut [u64],
+    out: &mut [u64],
+) -> Result<Step<u64>, Refusal>
     requires { Ready (state_of head elems.old shared.old) }
-    ensures { after_number result elems.new shared.new out.new ≡ step (state_of head elems.old shared.old) out.old drain_all }
+    ensures { after one_value head result elems.new shared.new out.new ≡ step (state_of head elems.old shared.old) out.old drain_all }
 {
     let frames = head.elems.live;
     if (out.len() as u64) < frames * RECORD_WIDTH {
-        return HeadNumber {
-            head,
-            answer: Number::Refused(Refusal::Short),
-            over: false,
-        };
+        return Err(Refusal::Short);
     }
     let emptied = drain_slots(head, elems, shared, out);
-    let cleared = clear(emptied, elems, shared);
-    let next = cleared.head;
-    HeadNumber {
-        head: next,
-        answer: Number::Is(frames),
-        over: false,
-    }
+    let cleared = clear(emptied, elems, shared)?;
+    Ok(Step::plain(cleared.head, frames))
 }

@@ -71,6 +71,13 @@ module _ (separator : ℕ) (bs : List ℕ) where
       pieces_first separator bs end p.0 p.1 p.2
       ∙ rw (add-one, take_all (length bs - suc end) (drop (suc end) bs) (omega arith))
 
+  -- what comes after it is shorter
+  pub found_shorter : (end : ℕ) → Some end ≡ position (λ b. b == separator) bs → length (slice_range bs (end + 1) (length bs)) < length bs
+  found_shorter end e =
+      let p = position-Some (λ b. b == separator) bs end 0 (sym e) in
+      let n : length (drop (end + 1) bs) ≡ length bs - (end + 1) = length-drop (end + 1) bs in
+      rw (take_all (length bs - (end + 1)) (drop (end + 1) bs) (omega arith), n) (omega (arith, p.0))
+
   pub pieces_whole : None ≡ position (λ b. b == separator) bs → pieces separator bs ≡ bs ∷ []
   pieces_whole e = go (dec_lt (position_or_len (λ b. b == separator) bs) (length bs))
     where

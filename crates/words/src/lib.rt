@@ -5,3 +5,4 @@ pub mod read;
 pub mod words;
 
 pub use read::{Line, read_line};
+pub use words::find;

@@ -1,6 +1,16 @@
+use Rattle.clones.proofs.Rows.{rowing_start, rowing_to, rowing_next}
+use Rattle.slots.proofs.Cells.{cell_of}
 use native.Mathlib.Omega.{arith}
-use Rattle.clones.proofs.Rows.{row_over}
 use Rattle.clones.proofs.copy_row.Goals as goal
 
+pub loop-field-init : goal.loop-field-init
+loop-field-init c = rowing_start _ _ _ _ _
+
+pub put-requires : goal.put-requires
+put-requires c = cell_of (rowing_to _ _ _ c.requires.0 _ _ _ _ c.loop-field.invariant c.loop-field-test.true) c.loop-field-test.true
+
+pub loop-field-preserved : goal.loop-field-preserved
+loop-field-preserved c = rowing_next _ _ _ c.requires.0 _ _ _ _ c.loop-field.invariant c.loop-field-test.true _ _ c.get-value.ensures c.put.ensures
+
 pub returns : goal.returns
-returns c = row_over _ _ _ _ _ _ _ _ c.requires.0 c.requires.1 (omega arith) (omega arith) c.copy_from_slice.ensures.after
+returns c = let R = c.loop-field.invariant in record { long = R.long; there = λ f h. R.there f (omega arith); still = R.still }

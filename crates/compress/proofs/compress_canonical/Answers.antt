@@ -1,7 +1,7 @@
-use Rattle.rules.specs.Tables.{blank}
 use mathlib.Core.Path.{ap}
 use native.Mathlib.Omega.{arith}
-use Rattle.rules.specs.declared.Raised.{Raised}
+use Rattle.std.specs.Prelude.{⊤}
+use Rattle.rules.specs.declared.Step.{Step}
 use Rattle.rules.proofs.Laws.Soundness.{shaped_of}
 use Rattle.compress.proofs.Final.{placeable}
 use Rattle.compress.proofs.Call.{compress_short, compressed-is}
@@ -17,4 +17,4 @@ pub place-requires : goal.place-requires
 place-requires c = placeable _ c.requires _ _ _ _ c.regroup.ensures
 
 pub returns : goal.returns
-returns c = compressed-is _ _ _ c.requires (omega (arith, c.if-scratch-head.false)) _ (ap (λ (r : Raised). r.head.generation) c.renew-next.ensures) _ _ c.regroup.ensures _ _ c.place.ensures _ (λ i. record { elems = c.pack-frames.ensures i; shared = c.pack-headers.ensures i; generation = c.renew-next.result.head.generation; undo = blank }) _ (ap (λ (r : Raised). r.over) c.renew-next.ensures)
+returns c = compressed-is _ _ _ c.requires (omega (arith, c.if-scratch-head.false)) _ (ap (λ (n : Step ⊤). n.head.generation) c.renew-next.ensures) _ _ c.regroup.ensures _ _ c.place.ensures _ (λ i. record { elems = c.pack.ensures i; shared = c.pack-2.ensures i; generation = c.renew-next.result.head.generation; undo = (c.renew-next.ensures i).head.undo }) _ (ap (λ (n : Step ⊤). n.over) c.renew-next.ensures)

@@ -1,20 +1,20 @@
 use mathlib.Core.Path.{◌∙◌}
 use Rattle.pools.proofs.Ask.{if_yes, if_no}
 use Rattle.rules.proofs.Laws.TwoDoors.{both_pass, source_misshapen, target_misshapen, not_sound}
-use Rattle.door_two.proofs.Refusing.{staying}
 use Rattle.door_two.proofs.transfer_canonical.Goals as goal
+use Rattle.door_two.proofs.transfer_canonical.Goals.{then-not-is_whole-via-then-not-is_whole, then-not-is_whole-via-else-not-is_whole+then-not-is_whole-2}
 
 pub returns-then-not-is_shaped : goal.returns-then-not-is_shaped
-returns-then-not-is_shaped c = staying _ _ _ _ _ c.stays.ensures (source_misshapen _ _ _ _ (c.is_shaped.ensures ∙ c.if-not-is_shaped.true))
+returns-then-not-is_shaped c = source_misshapen _ _ _ _ (c.is_shaped.ensures ∙ c.if-not-is_shaped.true)
 
 pub returns-then-not-is_shaped-2 : goal.returns-then-not-is_shaped-2
-returns-then-not-is_shaped-2 c = staying _ _ _ _ _ c.stays-then-not-is_shaped-2.ensures (target_misshapen _ _ _ _ (c.is_shaped.ensures ∙ c.if-not-is_shaped.false) (c.is_shaped-2.ensures ∙ c.if-not-is_shaped-2.true))
+returns-then-not-is_shaped-2 c = target_misshapen _ _ _ _ (c.is_shaped.ensures ∙ c.if-not-is_shaped.false) (c.is_shaped-2.ensures ∙ c.if-not-is_shaped-2.true)
 
 pub returns-then-not-is_whole : goal.returns-then-not-is_whole
-returns-then-not-is_whole c = staying _ _ _ _ _ c.stays-then-not-is_whole.ensures (not_sound _ _ _ _ (c.is_shaped.ensures ∙ c.if-not-is_shaped.false) (c.is_shaped-2.ensures ∙ c.if-not-is_shaped-2.false) (λ p. if_no c.is_whole.result c.if-not-is_whole.true c.is_whole.ensures p.0))
-
-pub returns-then-not-is_whole-2 : goal.returns-then-not-is_whole-2
-returns-then-not-is_whole-2 c = staying _ _ _ _ _ c.stays-then-not-is_whole-2.ensures (not_sound _ _ _ _ (c.is_shaped.ensures ∙ c.if-not-is_shaped.false) (c.is_shaped-2.ensures ∙ c.if-not-is_shaped-2.false) (λ p. if_no c.is_whole-2.result c.if-not-is_whole-2.true c.is_whole-2.ensures p.1))
+returns-then-not-is_whole c = not_sound _ _ _ _ (c.is_shaped.ensures ∙ c.if-not-is_shaped.false) (c.is_shaped-2.ensures ∙ c.if-not-is_shaped-2.false) (λ p. elim c.then-not-is_whole.branch [
+  | then-not-is_whole-via-then-not-is_whole w ↦ if_no c.is_whole.result w.if-not-is_whole.true c.is_whole.ensures p.0
+  | then-not-is_whole-via-else-not-is_whole+then-not-is_whole-2 w ↦ if_no w.is_whole-else-not-is_whole.result w.if-not-is_whole-2.true w.is_whole-else-not-is_whole.ensures p.1
+])
 
 pub returns : goal.returns
-returns c = both_pass _ _ _ _ _ (c.is_shaped.ensures ∙ c.if-not-is_shaped.false) (c.is_shaped-2.ensures ∙ c.if-not-is_shaped-2.false) (if_yes c.is_whole.result c.if-not-is_whole.false c.is_whole.ensures, if_yes c.is_whole-2.result c.if-not-is_whole-2.false c.is_whole-2.ensures) c.transfer_canonical.ensures
+returns c = both_pass _ _ _ _ _ (c.is_shaped.ensures ∙ c.if-not-is_shaped.false) (c.is_shaped-2.ensures ∙ c.if-not-is_shaped-2.false) (if_yes c.is_whole.result c.if-not-is_whole.false c.is_whole.ensures, if_yes c.is_whole-else-not-is_whole.result c.if-not-is_whole-2.false c.is_whole-else-not-is_whole.ensures) c.transfer_canonical.ensures

@@ -1,4 +1,5 @@
 use mathlib.Core.Path.{refl}
+use native.Mathlib.Omega.{arith}
 use Rattle.std.proofs.Common.{add-one, rules}
 use Rattle.rules.proofs.Laws.Steps.{steps-suc}
 use Rattle.rules.specs.Seals.{seal_width}
@@ -10,7 +11,7 @@ pub get-generation-requires : goal.get-generation-requires
 get-generation-requires c = let w = c.requires.0.each _ c.loop-written-test.true in rw c.loop-written.invariant.0 (search rules)
 
 pub write_place-requires : goal.write_place-requires
-write_place-requires c = place_next _ _ _ _ _ c.loop-written.auto.out c.requires.1 c.loop-written-test.true
+write_place-requires c = (omega arith, place_next seal_width _ _ _ _ c.loop-written.auto.out c.requires.1 c.loop-written-test.true)
 
 pub loop-written-preserved : goal.loop-written-preserved
 loop-written-preserved c = (

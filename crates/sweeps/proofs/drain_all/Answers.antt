@@ -1,6 +1,7 @@
 use mathlib.Core.Path.{ap, ◌∙◌}
 use native.Mathlib.Omega.{arith}
 use Rattle.rules.proofs.Laws.Safe.{safe}
+use Rattle.rules.proofs.Laws.DemandThree.{not-accepted}
 use Rattle.rules.proofs.Laws.Drained.{drain_all-keeps}
 use Rattle.rules.specs.Refusals.{Outcome}
 use Rattle.rules.specs.Drains.{clear, cleared}
@@ -13,9 +14,13 @@ overflow_mul-frames c = let s = safe _ c.requires in record { fits = omega (arit
 pub returns-then-out-frames : goal.returns-then-out-frames
 returns-then-out-frames c = drain_all-7 _ _ c.if-out-frames.true
 
-pub clear-cleared-requires : goal.clear-cleared-requires
-clear-cleared-requires c = rw c.drain_slots-emptied.ensures.state (drain_all-keeps _ _ c.requires)
+pub clear-requires : goal.clear-requires
+clear-requires c = rw c.drain_slots-emptied.ensures.state (drain_all-keeps _ _ c.requires)
+
+pub returns-in_err-cleared : goal.returns-in_err-cleared
+unfolding clear
+returns-in_err-cleared c = absurd (not-accepted _ (ap (λ (o : Outcome). o.said.number) (rw c.in_err-cleared.was at c.clear.ensures)))
 
 pub returns : goal.returns
 unfolding clear
-returns c = drain_all-done _ _ _ _ c.if-out-frames.false (ap (λ (o : Outcome). o.state) c.clear-cleared.ensures ∙ ap cleared c.drain_slots-emptied.ensures.state) c.drain_slots-emptied.ensures.lent
+returns c = rw c.plain.ensures (drain_all-done _ _ _ _ c.if-out-frames.false (ap (λ (o : Outcome). o.state) (rw c.in_ok-cleared.was at c.clear.ensures) ∙ ap cleared c.drain_slots-emptied.ensures.state) c.drain_slots-emptied.ensures.lent)

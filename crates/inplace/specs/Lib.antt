@@ -1,0 +1,2 @@
+-- What removal says of a head lent in place.
+pub mod Taken

@@ -1,8 +1,0 @@
-use Rattle.marks.proofs.Digits.{none}
-use lib.ListN.{length-replicate}
-use Prim.Native.Nat.{ℕ}
-use native.Mathlib.Omega.{arith}
-use Rattle.sound.proofs.scan_many.Goals as goal
-
-pub scan-requires : goal.scan-requires
-scan-requires c = (c.requires.0, record { room = omega (arith, c.requires.1, length-replicate {A = ℕ} 1024 0); none = none 1024 })
