@@ -70,6 +70,7 @@ fn build(head: Head, elems: &mut [u64], shared: &mut [u64], file: &[u8], counts:
 }
 
 // Ticket 11: fresh tables with the file's runs, whatever head and tables held; the head tells the capacities.
+#[tactic(auto, using(crate::proofs::Call::read_1, crate::proofs::Call::read_short, crate::proofs::Call::read_11, crate::proofs::Call::read_9, crate::proofs::Call::read_6, crate::proofs::Call::read_5, crate::proofs::Call::read_done))]
 pub fn read_file(
     head: Head,
     elems: &mut [u64],
