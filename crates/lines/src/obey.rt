@@ -75,8 +75,8 @@ pub fn obey_bytes(
     ensures { ObeysLine (line_reply (state_of head elems.old shared.old) line.now) (state_of result.head elems.new shared.new) out.old at out.new result.next }
 {
     let read = read_line(line);
-    let o = obey_line(head, elems, shared, keys, out, at, read);
-    let head = o.head;
-    let next = put_text(out, o.next, b"\n");
+    let obeyed = obey_line(head, elems, shared, keys, out, at, read);
+    let head = obeyed.head;
+    let next = put_text(out, obeyed.next, b"\n");
     Obeyed { head, next }
 }

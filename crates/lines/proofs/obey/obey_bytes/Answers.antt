@@ -6,6 +6,6 @@ use Rattle.lines.proofs.obey.obey_bytes.Goals as goal
 
 pub returns : goal.returns
 returns c =
-    let o = c.obey_line-o.ensures in
+    let o = c.obey_line-obeyed.ensures in
     rw (c.read_line-read.ensures (state_of c.args.head c.args.elems.now c.args.shared.now))
     (record { same = o.same; ready = o.ready; put = put_then o.put c.put_text-next.ensures; within = omega (arith, o.within, c.put_text-next.ensures.past) })
