@@ -7,7 +7,6 @@ mod recorder;
 
 use recorder::Recorder;
 use sample::Record;
-use std::io;
 use std::io::{Read, Stdin};
 
 // The most calls that are counted.
@@ -25,7 +24,8 @@ fn one_more(made: u64) -> u64 {
     if made < MOST { made + 1 } else { made }
 }
 
-fn main(rt: HostRuntime) -> io::Result<()> {
+// A print that fails is let go: to tell why would take one C function more (docs/TRUST.md).
+fn main(rt: HostRuntime) {
     let mut recorder = Recorder::new();
     let mut made = 0;
     for _ in 0..u64::MAX {
@@ -33,10 +33,10 @@ fn main(rt: HostRuntime) -> io::Result<()> {
             break;
         };
         if !recorder.replay(&record) {
-            print!(rt; "A CALL DIFFERS: ")?;
+            let _ = print!(rt; "A CALL DIFFERS: ");
             break;
         }
         made = one_more(made);
     }
-    println!(rt; "{made} calls said what the sample says")
+    let _ = println!(rt; "{made} calls said what the sample says");
 }
