@@ -8,7 +8,7 @@ use native.Mathlib.Omega.{arith}
 use Rattle.rules.specs.declared.Pool.{Pool}
 use Rattle.rules.specs.declared.Step.{Step}
 use Rattle.rules.specs.declared.Refusal.TheVariants.{NoElement, NoShared}
-use Rattle.rules.specs.Tables.{frame_width, header_width, frame_at, header_at, blank, State, elem_side, shared_side}
+use Rattle.rules.specs.Tables.{blank, State, elem_side, shared_side}
 use Rattle.rules.specs.Refusals.{shaped}
 use Rattle.rules.specs.Calls.{Ready}
 use Rattle.rules.specs.TwoTables.{after_target}
@@ -46,10 +46,10 @@ module _ (to of : State) where
     H : Shaped of
     H = shaped_of of R.shape
 
-    pub frames-scan : Scannable of.head.elems frame_width of.elems frame_at.generation
+    pub frames-scan : Scannable (elem_side of)
     frames-scan = record { inside = omega (arith, W.elems.fits, H.elems.long); reads = omega arith }
 
-    pub headers-scan : Scannable of.head.shared header_width of.shared header_at.count
+    pub headers-scan : Scannable (shared_side of)
     headers-scan = record { inside = omega (arith, W.shared.fits, H.shared.long); reads = omega arith }
 
     pub frames_clone : (n : ℕ) → n ≡ last_live (elem_side of) → n ≤ to.head.elems.capacity → Clonable to.head.elems.capacity to.elems (elem_side of) n

@@ -1,16 +1,17 @@
 -- What a copy of a table asks and leaves.
 use Rattle.std.specs.Prelude.{◌≡◌, ◌≢◌, List, ℕ, ◌*◌, ◌≤◌, ◌<◌, length}
 use Rattle.rules.specs.declared.Pool.{Pool}
+use Rattle.clones.specs.declared.Layout.{Layout}
 use Rattle.rules.specs.Tables.{most_slots, cell, Side, field_of}
 use Rattle.rules.specs.Copy.{last_live}
 use Rattle.rules.proofs.Laws.Pools.{Pooled}
 
-abbrev pub side_of : Pool → (table : List ℕ) → (width used link : ℕ) → Side
-side_of pool table width used link = record { pool = pool; table = table; width = width; used = used; link = link }
+abbrev pub side_of : Pool → (table : List ℕ) → Layout → Side
+side_of pool table layout = record { pool = pool; table = table; width = layout.width; used = layout.used; link = layout.link }
 
-pub record Scannable (p : Pool) (w : ℕ) (t : List ℕ) (used : ℕ) : Type 0 where
-  pub inside : p.extent * w ≤ length t
-  pub reads : used < w
+pub record Scannable (t : Side) : Type 0 where
+  pub inside : t.pool.extent * t.width ≤ length t.table
+  pub reads : t.used < t.width
 
 -- the fields of the slot `b` are those of `s` in the other table
 pub record Rowed (w : ℕ) (t : List ℕ) (b : ℕ) (from : List ℕ) (s : ℕ) (t' : List ℕ) : Type 0 where

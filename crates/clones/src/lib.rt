@@ -2,7 +2,7 @@
 // Ported from clone_from_with of surject_arena.rs (triple_arena 0.15.1, NOTICE).
 #![tactic(auto)]
 
-ghost use Rattle.std.specs.Prelude.{◌≡◌, true, ℕ, ◌≤◌, ◌<◌};
+ghost use Rattle.std.specs.Prelude.{◌≡◌, true, ◌≤◌, ◌<◌};
 ghost use Rattle.rules.specs.Tables.{most_slots, state_of};
 ghost use Rattle.rules.specs.Refusals.{shaped};
 ghost use Rattle.rules.specs.Calls.{Ready};
@@ -15,13 +15,33 @@ use copies::zero;
 use rules::{BLANK, COUNT, FRAME, GENERATION, HEADER, Head, NEXT, NEXT_FREE, Pool, Refusal, Step};
 use slots::{get, put};
 
+// The numbers of a table's slots: how many, which says that a slot is live, and which names the next free one.
+#[derive(Clone, Copy)]
+pub struct Layout {
+    pub width: u64,
+    pub used: u64,
+    pub link: u64,
+}
+
+const FRAMES: Layout = Layout {
+    width: FRAME,
+    used: GENERATION,
+    link: NEXT,
+};
+
+const HEADERS: Layout = Layout {
+    width: HEADER,
+    used: COUNT,
+    link: NEXT_FREE,
+};
+
 // The last live slot; 0 if there is none.
-pub fn last(pool: Pool, t: &[u64], width: u64, used: u64) -> u64
-    requires { Scannable pool width t.now used }
-    ensures { (link : ℕ) → result ≡ last_live (side_of pool t.now width used link) }
+pub fn last(pool: Pool, t: &[u64], layout: Layout) -> u64
+    requires { Scannable (side_of pool t.now layout) }
+    ensures { result ≡ last_live (side_of pool t.now layout) }
 {
     for slot in (1..=pool.extent).rev() {
-        let live = get(t, width, used, slot);
+        let live = get(t, layout.width, layout.used, slot);
         if live != 0 {
             return slot;
         }
@@ -41,25 +61,17 @@ pub fn copy_row(to: &mut [u64], place: u64, from: &[u64], slot: u64, width: u64)
 }
 
 // One slot: a live one is copied; a free one names the free one above it, and is answered.
-fn copy_slot(
-    to: &mut [u64],
-    from: &[u64],
-    width: u64,
-    used: u64,
-    link: u64,
-    slot: u64,
-    root: u64,
-) -> u64
-    requires { Within width to.old slot × Within width from.now slot × (used < width) × (link < width) × (slot ≤ most_slots) × (width ≤ most_slots) }
-    ensures { CloneOne width to.old from.now used link slot root to.new result }
+fn copy_slot(to: &mut [u64], from: &[u64], layout: Layout, slot: u64, root: u64) -> u64
+    requires { Within layout.width to.old slot × Within layout.width from.now slot × (layout.used < layout.width) × (layout.link < layout.width) × (slot ≤ most_slots) × (layout.width ≤ most_slots) }
+    ensures { CloneOne layout.width to.old from.now layout.used layout.link slot root to.new result }
 {
-    let live = get(from, width, used, slot);
+    let live = get(from, layout.width, layout.used, slot);
     if live == 0 {
-        zero(to, (slot - 1) * width, slot * width);
-        put(to, width, slot, link, root);
+        zero(to, (slot - 1) * layout.width, slot * layout.width);
+        put(to, layout.width, slot, layout.link, root);
         return slot;
     }
-    copy_row(to, slot, from, slot, width);
+    copy_row(to, slot, from, slot, layout.width);
     root
 }
 
@@ -69,19 +81,17 @@ pub fn copy_table(
     to: &mut [u64],
     pool: Pool,
     from: &[u64],
-    width: u64,
-    used: u64,
-    link: u64,
+    layout: Layout,
     last: u64,
 ) -> Pool
-    requires { Clonable capacity to.old (side_of pool from.now width used link) last }
-    ensures { (result ≡ copied_pool capacity (side_of pool from.now width used link)) × (to.new ≡ copied_table capacity (side_of pool from.now width used link)) }
+    requires { Clonable capacity to.old (side_of pool from.now layout) last }
+    ensures { (result ≡ copied_pool capacity (side_of pool from.now layout)) × (to.new ≡ copied_table capacity (side_of pool from.now layout)) }
 {
     let mut root: u64 = 0;
     for slot in (1..=last).rev() {
-        root = copy_slot(to, from, width, used, link, slot, root);
+        root = copy_slot(to, from, layout, slot, root);
     }
-    zero(to, last * width, capacity * width);
+    zero(to, last * layout.width, capacity * layout.width);
     Pool {
         capacity,
         extent: last,
@@ -104,20 +114,18 @@ pub fn clone_from(
 {
     let room = head.elems.capacity;
     let pool = source.elems;
-    let top = last(pool, frames, FRAME, GENERATION);
+    let top = last(pool, frames, FRAMES);
     if room < top {
         return Err(Refusal::NoElement);
     }
     let places = head.shared.capacity;
     let classes = source.shared;
-    let highest = last(classes, headers, HEADER, COUNT);
+    let highest = last(classes, headers, HEADERS);
     if places < highest {
         return Err(Refusal::NoShared);
     }
-    let copy = copy_table(room, elems, pool, frames, FRAME, GENERATION, NEXT, top);
-    let copied = copy_table(
-        places, shared, classes, headers, HEADER, COUNT, NEXT_FREE, highest,
-    );
+    let copy = copy_table(room, elems, pool, frames, FRAMES, top);
+    let copied = copy_table(places, shared, classes, headers, HEADERS, highest);
     let next = Head {
         elems: copy,
         shared: copied,

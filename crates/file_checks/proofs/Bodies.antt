@@ -18,12 +18,16 @@ use Rattle.file_checks.specs.Said.{said_body}
 pub product : (n w : ℕ) → w ≤ 16 → n * w ≤ n * 16
 product n w h = mul-le-mul_left n h
 
-module _ (v at : ℕ) (b : List ℕ) (h : at ≤ length b) where
-  pub body-small : length b - at < 20 → None ≡ said_body v at (body v (drop at b))
-  body-small l = rw (body_short v (drop at b) (omega (arith, length-drop at b)))
+nonzero : (n : ℕ) → (n ≡ 0 → ⊥) → 1 ≤ n
+nonzero zero f = absurd (f refl)
+nonzero (suc n) f = omega arith
 
-  pub body-over : (n : ℕ) → n ≡ value 4 (drop (at + 16) b) → 20 ≤ length b - at → length b - at - 20 < n * frame_length v → None ≡ said_body v at (body v (drop at b))
-  body-over n e l k =
+module _ (v at : ℕ) (b : List ℕ) (h : at ≤ length b) where
+  pub body_small : length b - at < 20 → None ≡ said_body v at (body v (drop at b))
+  body_small l = rw (body_short v (drop at b) (omega (arith, length-drop at b)))
+
+  pub body_over : (n : ℕ) → n ≡ value 4 (drop (at + 16) b) → 20 ≤ length b - at → length b - at - 20 < n * frame_length v → None ≡ said_body v at (body v (drop at b))
+  body_over n e l k =
       let d : List ℕ = drop at b in
       let z : n ≡ count_here d = e ∙ rw (drop-drop 16 at b) in
       let y : n * frame_length v ≡ count_here d * frame_length v = ap (λ (m : ℕ). m * frame_length v) z in
@@ -42,22 +46,18 @@ module _ (v at : ℕ) (b : List ℕ) (h : at ≤ length b) where
     none : n ≡ 0 → None ≡ said_body v at (body v (drop at b))
     none z = rw (told, z)
 
-    pub body_wrong : (t : ℕ) → t ≡ total (frames_here v n (drop (at + 20) b)) → (said ≡ t → ⊥) → 1 ≤ n → None ≡ said_body v at (body v (drop at b))
-    body_wrong t q f o = rw (told, ← q, le-leb 1 n o, ne_eqb said t f)
+    pub body_wrong : (t : ℕ) → t ≡ total (frames_here v n (drop (at + 20) b)) → (said ≡ t → ⊥) → (n ≡ 0 → ⊥) → None ≡ said_body v at (body v (drop at b))
+    body_wrong t q f o = rw (told, ← q, le-leb 1 n (nonzero n o), ne_eqb said t f)
 
-    pub body_right : (t : ℕ) → t ≡ total (frames_here v n (drop (at + 20) b)) → said ≡ t → 1 ≤ n → Some (record { end = at + 20 + n * frame_length v; frames = n }) ≡ said_body v at (body v (drop at b))
+    pub body_right : (t : ℕ) → t ≡ total (frames_here v n (drop (at + 20) b)) → said ≡ t → (n ≡ 0 → ⊥) → Some (record { end = at + 20 + n * frame_length v; frames = n }) ≡ said_body v at (body v (drop at b))
     body_right t q f o =
         let ss = frames_here v n (drop (at + 20) b) in
         let len : length ss ≡ n = each-length (frame_length v) (frame_here v) n (drop (at + 20) b) in
         let z : at + 20 + n * frame_length v ≡ at + (20 + n * frame_length v) = omega arith in
-        rw (told, le-leb 1 n o, eq-eqb said (total ss) (f ∙ q), len, z)
+        rw (told, le-leb 1 n (nonzero n o), eq-eqb said (total ss) (f ∙ q), len, z)
 
-  pub body-none : (n said : ℕ) → n ≡ value 4 (drop (at + 16) b) → said ≡ value 8 (drop (at + 8) b) → 20 ≤ length b - at → n ≡ 0 → None ≡ said_body v at (body v (drop at b))
-  body-none n said e s l z =
+  pub body_none : (n said : ℕ) → n ≡ value 4 (drop (at + 16) b) → said ≡ value 8 (drop (at + 8) b) → 20 ≤ length b - at → n ≡ 0 → None ≡ said_body v at (body v (drop at b))
+  body_none n said e s l z =
       let y : n * frame_length v ≡ 0 * frame_length v = ap (λ (m : ℕ). m * frame_length v) z in
       let x : 0 * frame_length v ≡ 0 = omega arith in
       none n said e s l (omega arith) z
-
-pub nonzero : (n : ℕ) → (n ≡ 0 → ⊥) → 1 ≤ n
-nonzero zero f = absurd (f refl)
-nonzero (suc n) f = omega arith

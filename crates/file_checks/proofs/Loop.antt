@@ -31,6 +31,7 @@ pub record Passed (b : List ℕ) (v count i at frames : ℕ) : Type 0 where
   pub done : List StoredRun
   pub rest : parse v b ≡ whole (prepend done (bodies v at (each 8 entry_here (count - i) (drop (8 + i * 8) b)) (drop at b)))
   pub runs : length done ≡ i
+  pub so_far : i ≤ count
   pub counted : frames ≡ frame_count done
   pub room : 8 + count * 8 ≤ length b
   pub within : at ≤ length b
@@ -57,6 +58,7 @@ module _ (b : List ℕ) (v count : ℕ) (long : 8 ≤ length b) (c : count ≡ v
           drop-drop (count * 8) 8 b,
         );
         runs = refl;
+        so_far = omega arith;
         counted = refl;
         room = omega arith;
         within = omega arith;
@@ -70,7 +72,7 @@ bodies-unread v at e es m q = go (body v m) q
   where
     inner : (t : Bool) (r : StoredRun) (rest : List ℕ) → (if t then Some (read_at v at r) else None) ≡ None
         → onward ((if t then bodies v (at + body_length v r) es else reject) rest) (λ rs. return (r ∷ rs)) ≡ unread
-    inner true r rest q = absurd (let z : ◌≡◌ {A = ℕ} 0 1 = cc in omega arith)
+    inner true r rest q = cc
     inner false r rest q = refl
 
     go : (g : Got StoredRun) → said_run v at e g ≡ None
@@ -96,10 +98,10 @@ bodies-taken v at e es m x q = go (body v m) refl q
         let p : at + body_length v r ≡ x.end = cc in
         let n : length r.frames ≡ x.frames = cc in
         (sym p, sym n, rw p)
-    inner false r rest q = absurd (let z : ◌≡◌ {A = ℕ} 0 1 = cc in omega arith)
+    inner false r rest q = cc
 
     go : (g : Got StoredRun) → body v m ≡ g → said_run v at e g ≡ Some x → Taken v at e es m x
-    go unread w q = absurd (let z : ◌≡◌ {A = ℕ} 0 1 = cc in omega arith)
+    go unread w q = cc
     go (got r rest) w q =
         let l = body_leaves v m r rest w in
         let t = inner ((e.offset == at) && (e.long == body_length v r)) r rest q in
@@ -130,13 +132,13 @@ module _ {b : List ℕ} {v count i at frames : ℕ} (p : Passed b v count i at f
         let d : 8 + i * 8 + 8 ≡ 8 + (i + 1) * 8 = omega arith in
         p.rest ∙ rw (each_step 8 entry_here (count - i) (drop (8 + i * 8) b) (omega arith), n, drop-drop 8 (8 + i * 8) b, d)
 
-    pub passed-departs : said_run v at (entry_here (drop (8 + i * 8) b)) (body v (drop at b)) ≡ None → None ≡ said_parsed (parse v b)
-    passed-departs q = rw (unrolled, bodies-unread v at (entry_here (drop (8 + i * 8) b)) tail (drop at b) q)
+    pub passed_departs : None ≡ said_run v at (entry_here (drop (8 + i * 8) b)) (body v (drop at b)) → None ≡ said_parsed (parse v b)
+    passed_departs q = rw (unrolled, bodies-unread v at (entry_here (drop (8 + i * 8) b)) tail (drop at b) (sym q))
 
-    pub passed-next : (x : Body) → said_run v at (entry_here (drop (8 + i * 8) b)) (body v (drop at b)) ≡ Some x → Passed b v count (i + 1) x.end (frames + x.frames)
+    pub passed_next : (x : Body) → Some x ≡ said_run v at (entry_here (drop (8 + i * 8) b)) (body v (drop at b)) → Passed b v count (i + 1) x.end (frames + x.frames)
     unfolding tail
-    passed-next x q =
-        let t = bodies-taken v at (entry_here (drop (8 + i * 8) b)) tail (drop at b) x q in
+    passed_next x q =
+        let t = bodies-taken v at (entry_here (drop (8 + i * 8) b)) tail (drop at b) x (sym q) in
         let r : StoredRun = t.run in
         let d : drop (body_length v r) (drop at b) ≡ drop x.end b = drop-drop (body_length v r) at b ∙ ap (λ (k : ℕ). drop k b) (sym t.long) in
         let l : length (drop at b) ≡ length b - at = length-drop at b in
@@ -144,27 +146,28 @@ module _ {b : List ℕ} {v count i at frames : ℕ} (p : Passed b v count i at f
           done = p.done ++ r ∷ [];
           rest = unrolled ∙ rw (t.is, d) (ap whole (prepend_more p.done r (bodies v x.end tail (drop x.end b))));
           runs = omega (arith, p.runs, length-append p.done (r ∷ []));
+          so_far = omega arith;
           counted = omega (arith, p.counted, t.many, frame_count-snoc p.done r);
           room = p.room;
           within = omega (arith, t.long, t.within, p.within);
           few = omega (arith, p.few, t.long, t.many, mul-le-mul_left (length r.frames) (twelve v));
         }
 
-  passed-last : i ≡ count → parse v b ≡ whole (got p.done (drop at b))
+  passed_last : count ≤ i → parse v b ≡ whole (got p.done (drop at b))
   unfolding bodies each
-  passed-last h =
+  passed_last h =
       let z : count - i ≡ 0 = omega arith in
       let e : parse v b ≡ whole (got (p.done ++ []) (drop at b)) = subst (λ (k : ℕ). parse v b ≡ whole (prepend p.done (bodies v at (each 8 entry_here k (drop (8 + i * 8) b)) (drop at b)))) z p.rest in
       e ∙ rw (append-nil p.done)
 
-  pub passed-whole : i ≡ count → at ≡ length b → Some (record { runs = count; frames = frames }) ≡ said_parsed (parse v b)
-  passed-whole h e =
+  pub passed_whole : count ≤ i → at ≡ length b → Some (record { runs = count; frames = frames }) ≡ said_parsed (parse v b)
+  passed_whole h e =
       let d : drop at b ≡ [] = ap (λ (k : ℕ). drop k b) e ∙ drop-length b in
-      let n : count ≡ length p.done = omega (arith, h, p.runs) in
-      rw (passed-last h, d, n, p.counted)
+      let n : count ≡ length p.done = omega (arith, h, p.runs, p.so_far) in
+      rw (passed_last h, d, n, p.counted)
 
-  pub passed_more : i ≡ count → (at ≡ length b → ⊥) → None ≡ said_parsed (parse v b)
-  passed_more h f = rw (passed-last h) (go (drop at b) refl)
+  pub passed_more : count ≤ i → (at ≡ length b → ⊥) → None ≡ said_parsed (parse v b)
+  passed_more h f = rw (passed_last h) (go (drop at b) refl)
     where
       go : (m : List ℕ) → drop at b ≡ m → None ≡ said_parsed (whole (got p.done m))
       go [] q = absurd (f (omega (arith, p.within, ap length q, length-drop at b)))

@@ -35,6 +35,7 @@ fn sizes(b: &[u8], at: usize, n: usize) -> u64
 }
 
 // A body at a place: its fields, its frames, and their sizes summed.
+#[tactic(auto, using(crate::proofs::Bodies::body_small, crate::proofs::Bodies::body_over, crate::proofs::Bodies::body_none, crate::proofs::Bodies::body_wrong, crate::proofs::Bodies::body_right))]
 fn check_body(b: &[u8], at: usize) -> Option<Body>
     requires { at ≤ length b.now }
     ensures { result ≡ said_body 1 at (body 1 (drop at b.now)) }
@@ -64,6 +65,7 @@ fn check_body(b: &[u8], at: usize) -> Option<Body>
 }
 
 // A body at a place, which its entry in the contents must give, and its length.
+#[tactic(auto, using(crate::proofs::Entries::entry_none, crate::proofs::Entries::entry_off, crate::proofs::Entries::entry_long, crate::proofs::Entries::entry_fits))]
 fn check_run(b: &[u8], entry: usize, at: usize) -> Option<Body>
     requires { (at ≤ length b.now) × (entry + 8 ≤ length b.now) }
     ensures { result ≡ said_run 1 at (entry_here (drop entry b.now)) (body 1 (drop at b.now)) }
@@ -83,6 +85,7 @@ fn check_run(b: &[u8], entry: usize, at: usize) -> Option<Body>
 }
 
 // The whole file: what the rules read in it, from the version on.
+#[tactic(auto, using(crate::proofs::Loop::too_many, crate::proofs::Loop::passed_first, crate::proofs::Loop::passed_next))]
 pub fn check_runs(b: &[u8]) -> Option<Held>
     requires { 8 ≤ length b.now }
     ensures { result ≡ said_parsed (parse 1 b.now) }

@@ -105,7 +105,7 @@ pub told : (b : List ℕ) (h : Held) → Some h ≡ said_parsed (parse 1 b) → 
 told b h e = go (parse 1 b) e
   where
     go : (p : Parsed) → Some h ≡ said_parsed p → (p ≡ holds (held_in p)) × (h.runs ≡ length (held_in p)) × (h.frames ≡ frame_count (held_in p))
-    go departs e = absurd (let z : ◌≡◌ {A = ℕ} 0 1 = cc in omega arith)
+    go departs e = cc
     go (holds rs) e = (refl, cc, cc)
 
 pub untold : (b : List ℕ) → None ≡ said_parsed (parse 1 b) → parse 1 b ≡ departs
@@ -113,7 +113,7 @@ untold b e = go (parse 1 b) e
   where
     go : (p : Parsed) → None ≡ said_parsed p → p ≡ departs
     go departs e = refl
-    go (holds rs) e = absurd (let z : ◌≡◌ {A = ℕ} 0 1 = cc in omega arith)
+    go (holds rs) e = cc
 
 module _ (st : State) (b : List ℕ) where
   pub read_1 : shaped st ≡ false → after no_values st.head (Err Shape) st.elems st.shared [] ≡ read_step st b

@@ -22,7 +22,7 @@ body-sum : (v : ℕ) (b : List ℕ) (r : StoredRun) (rest : List ℕ) → body v
 body-sum v b r rest e = go (dec_lt (length b) 20) (dec_lt (length b) (20 + count_here b * frame_length v))
   where
     never : body v b ≡ unread → ⊥
-    never q = let z : ◌≡◌ {A = ℕ} 0 1 = cc in omega arith
+    never q = cc
 
     go : Dec (length b < 20) → Dec (length b < 20 + count_here b * frame_length v) → value 8 (drop 8 b) ≡ total r.frames
     go (yes h) d = absurd (never (body_short v b h))
@@ -62,7 +62,7 @@ bodies_stand b at [] rs rest h e = let p : [] ≡ rs = cc in subst (λ (l : List
 bodies_stand b at (x ∷ es) rs rest h e = go (body 1 (drop at b)) refl e (λ l ys m k q. bodies_stand b (at + l) es ys m k q)
   where
     last : (r : StoredRun) (m : List ℕ) → body 1 (drop at b) ≡ got r m → (g : Got (List StoredRun)) → bodies 1 (at + body_length 1 r) es m ≡ g → onward g (λ ys. return (r ∷ ys)) ≡ got rs rest → More b at es → Read b at (suc (length es)) rs
-    last r m w unread q e f = absurd (let z : ◌≡◌ {A = ℕ} 0 1 = cc in omega arith)
+    last r m w unread q e f = cc
     last r m w (got ys m₂) q e f =
         let s : Stands b at r = stands b at r m h w in
         let d : m ≡ drop (at + body_length 1 r) b = (body_leaves 1 (drop at b) r m w).rest-is ∙ drop-drop (body_length 1 r) at b in
@@ -71,12 +71,12 @@ bodies_stand b at (x ∷ es) rs rest h e = go (body 1 (drop at b)) refl e (λ l 
         subst (λ (l : List StoredRun). Read b at (suc (length es)) l) p (record { standing = (s, t.standing); many = ap suc t.many })
 
     inner : (t : Bool) (r : StoredRun) (m : List ℕ) → body 1 (drop at b) ≡ got r m → onward ((if t then bodies 1 (at + body_length 1 r) es else reject) m) (λ ys. return (r ∷ ys)) ≡ got rs rest → More b at es → Read b at (suc (length es)) rs
-    inner false r m w e f = absurd (let z : ◌≡◌ {A = ℕ} 0 1 = cc in omega arith)
+    inner false r m w e f = cc
     inner true r m w e f = last r m w (bodies 1 (at + body_length 1 r) es m) refl e f
 
     go : (g : Got StoredRun) → body 1 (drop at b) ≡ g → onward g (λ r. λ m. onward ((if (x.offset == at) && (x.long == body_length 1 r) then bodies 1 (at + body_length 1 r) es else reject) m) (λ ys. return (r ∷ ys))) ≡ got rs rest
         → More b at es → Read b at (suc (length es)) rs
-    go unread w e f = absurd (let z : ◌≡◌ {A = ℕ} 0 1 = cc in omega arith)
+    go unread w e f = cc
     go (got r m) w e f = inner ((x.offset == at) && (x.long == body_length 1 r)) r m w e f
 
 -- THE WHOLE FILE: what it holds stands past its contents
@@ -91,8 +91,8 @@ parse_stands b rs h e = go (dec_lt (length b) (8 + n * 8))
     counted = rw (number-some 4 (drop 4 b) (omega (arith, length-drop 4 b)), drop-drop 4 4 b)
 
     last : (g : Got (List StoredRun)) → bodies 1 (first_body n) (each 8 entry_here n (drop 8 b)) (drop (first_body n) b) ≡ g → first_body n ≤ length b → whole g ≡ holds rs → Standing b (first_body (length rs)) rs × (first_body (length rs) ≤ length b)
-    last unread q l e = absurd (let z : ◌≡◌ {A = ℕ} 0 1 = cc in omega arith)
-    last (got xs (y ∷ rest)) q l e = absurd (let z : ◌≡◌ {A = ℕ} 0 1 = cc in omega arith)
+    last unread q l e = cc
+    last (got xs (y ∷ rest)) q l e = cc
     last (got xs []) q l e =
         let p : xs ≡ rs = cc in
         let t = bodies_stand b (first_body n) (each 8 entry_here n (drop 8 b)) xs [] l q in
@@ -100,5 +100,5 @@ parse_stands b rs h e = go (dec_lt (length b) (8 + n * 8))
         subst (λ (l : List StoredRun). Standing b (first_body (length l)) l × (first_body (length l) ≤ length b)) p (subst (λ (k : ℕ). Standing b (first_body k) xs) (sym z) t.standing, omega (arith, z, l))
 
     go : Dec (length b < 8 + n * 8) → Standing b (first_body (length rs)) rs × (first_body (length rs) ≤ length b)
-    go (yes l) = absurd (let z : ◌≡◌ {A = Parsed} departs (holds rs) = sym (counted ∙ rw (times_none entry 8 entry_here entry_sized n (drop 8 b) (omega (arith, length-drop 8 b)))) ∙ e in let y : ◌≡◌ {A = ℕ} 0 1 = cc in omega arith)
+    go (yes l) = let z : ◌≡◌ {A = Parsed} departs (holds rs) = sym (counted ∙ rw (times_none entry 8 entry_here entry_sized n (drop 8 b) (omega (arith, length-drop 8 b)))) ∙ e in cc
     go (no l) = last (bodies 1 (first_body n) (each 8 entry_here n (drop 8 b)) (drop (first_body n) b)) refl (omega arith) (sym (counted ∙ rw (times-some entry 8 entry_here entry_sized n (drop 8 b) (omega (arith, length-drop 8 b)), drop-drop (n * 8) 8 b)) ∙ e)

@@ -64,10 +64,11 @@ impl Study<'_> {
             return false;
         }
         let class = get(self.elems, FRAME, CLASS, x);
-        if marks::is_marked(seen, class - 1) {
+        let place = class - 1;
+        if marks::is_marked(seen, place) {
             return false;
         }
-        marks::mark(seen, class - 1);
+        marks::mark(seen, place);
         true
     }
 

@@ -9,8 +9,8 @@ ghost use Rattle.rules.specs.Calls.{Ready, step, compress_with};
 ghost use Rattle.rules.specs.Compress.{renumbered, live_slots};
 
 use compress::{pack, renew};
-use ranks::{PAIR_WIDTH, rank, rename, settle, tell};
-use rules::{COUNT, FRAME, GENERATION, HEADER, Head, NEXT_FREE, Refusal, Step};
+use ranks::{FRAMES, HEADERS, PAIR_WIDTH, rank, rename, settle, tell};
+use rules::{Head, Refusal, Step};
 
 // Both tables. Every frame gets a new generation, and a live header's next free number is 0: they hold the ranks meanwhile.
 fn renumber(head: Head, elems: &mut [u64], shared: &mut [u64], generation: u64)
@@ -19,11 +19,11 @@ fn renumber(head: Head, elems: &mut [u64], shared: &mut [u64], generation: u64)
 {
     let frames = head.elems.extent;
     let headers = head.shared.extent;
-    rank(elems, FRAME, GENERATION, GENERATION, frames);
-    rank(shared, HEADER, COUNT, NEXT_FREE, headers);
+    rank(elems, FRAMES, frames);
+    rank(shared, HEADERS, headers);
     rename(elems, shared, frames);
-    settle(elems, FRAME, GENERATION, GENERATION, generation, frames);
-    settle(shared, HEADER, COUNT, NEXT_FREE, 0, headers);
+    settle(elems, FRAMES, generation, frames);
+    settle(shared, HEADERS, 0, headers);
 }
 
 // Ticket 3: live frames move down in slot order, headers in their own; a pair of old key and new key for each frame.

@@ -1,9 +1,8 @@
--- What a test of an answered question gives; rows within a table.
+-- What a test of an answered question gives; and that each header was asked.
 use mathlib.Core.Path.{◌≡◌, sym, subst, ◌∙◌}
 use mathlib.Core.Bool.{Bool, true, false}
 use mathlib.Core.List.{List}
-use Prim.Native.Nat.{ℕ, ◌+◌, ◌*◌, ◌≤◌, ◌<◌}
-use native.Mathlib.Nat.{mul-le-mul_right}
+use Prim.Native.Nat.{ℕ, ◌+◌, ◌<◌}
 use native.Mathlib.Omega.{arith}
 use lib.ListN.{length, get_or}
 use Rattle.std.specs.Bool.{MatchBool}
@@ -25,16 +24,6 @@ settle false f g a = λ p. a (g p)
 pub is_like : {P Q : Type 0} (r : Bool) → (P → Q) → (Q → P) → Is P r → Is Q r
 is_like true f g a = f a
 is_like false f g a = λ q. a (g q)
-
-pub differ : (b : Bool) → b ≡ false → b ≡ true → ⊥
-differ b p q = let z : ◌≡◌ {A = ℕ} 0 1 = cc in omega arith
-
-pub row_in : (x n w k : ℕ) → x ≤ n → n * w ≤ k → x * w ≤ k
-row_in x n w k h l = omega (arith, mul-le-mul_right w h)
-
--- the slots up to the extent, within a table that is as long as its capacity says
-pub extent_in : (extent capacity w k : ℕ) → extent ≤ capacity → k ≡ capacity * w → extent * w ≤ k
-extent_in extent capacity w k h e = rw e (mul-le-mul_right w h)
 
 -- each of the headers up to the extent was asked
 pub headers_by_all : (s : List ℕ) (m : ℕ) (r : Bool) → MatchBool r (AllWithin (HeaderOk s) (range_with_len 1 m) 0 (length (range_with_len 1 m))) ((k : ℕ) × (k < length (range_with_len 1 m)) × HoldsAt (λ c. HeaderOk s c → ⊥) (range_with_len 1 m) k) → Is (Headers s m) r

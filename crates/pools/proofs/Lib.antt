@@ -1,3 +1,3 @@
--- Questions answered by a test; rows within a table; zeros.
+-- Questions answered by a test; zeros.
 pub mod Ask
 pub mod Empty

@@ -8,33 +8,53 @@ ghost use Rattle.slots.specs.Asked.{Within};
 ghost use Rattle.ranks.specs.Passes.{Fields, RankOne, Ranked, RenameOne, Renameable, Followed, Renamed, Shifted, PackOne, Packed, Settled, Room, Tellable, TellOne, Told};
 
 use copies::zero;
-use rules::{CLASS, FRAME, GENERATION, HEADER, NEXT, NEXT_FREE, PREVIOUS};
+use rules::{CLASS, COUNT, FRAME, GENERATION, HEADER, NEXT, NEXT_FREE, PREVIOUS};
 use slots::{get, put};
 
 // Numbers to a pair of keys: old slot, old generation, new slot, new generation; in the rules, pair_width.
 pub const PAIR_WIDTH: u64 = 4;
 
+// The numbers of a table's slots: how many, which says that a slot is live, and which is written anew anyway, and holds its rank meanwhile.
+#[derive(Clone, Copy)]
+pub struct Layout {
+    pub width: u64,
+    pub used: u64,
+    pub into: u64,
+}
+
+pub const FRAMES: Layout = Layout {
+    width: FRAME,
+    used: GENERATION,
+    into: GENERATION,
+};
+
+pub const HEADERS: Layout = Layout {
+    width: HEADER,
+    used: COUNT,
+    into: NEXT_FREE,
+};
+
 // One slot: if it is live, its field `into` becomes its rank, one more than the live slots before it. The answer is the number of live slots by now.
-fn rank_one(t: &mut [u64], width: u64, used: u64, into: u64, slot: u64, ranked: u64) -> u64
-    requires { Within width t.old slot × (used < width) × (into < width) × (ranked < most_slots) }
-    ensures { RankOne width t.old used into slot ranked t.new result }
+fn rank_one(t: &mut [u64], layout: Layout, slot: u64, ranked: u64) -> u64
+    requires { Within layout.width t.old slot × (layout.used < layout.width) × (layout.into < layout.width) × (ranked < most_slots) }
+    ensures { RankOne layout.width t.old layout.used layout.into slot ranked t.new result }
 {
-    let live = get(t, width, used, slot);
+    let live = get(t, layout.width, layout.used, slot);
     if live == 0 {
         return ranked;
     }
-    put(t, width, slot, into, ranked + 1);
+    put(t, layout.width, slot, layout.into, ranked + 1);
     ranked + 1
 }
 
 // The first `slots` slots.
-pub fn rank(t: &mut [u64], width: u64, used: u64, into: u64, slots: u64)
-    requires { Fields width t.old used into slots }
-    ensures { Ranked width t.old used into slots t.new }
+pub fn rank(t: &mut [u64], layout: Layout, slots: u64)
+    requires { Fields layout.width t.old layout.used layout.into slots }
+    ensures { Ranked layout.width t.old layout.used layout.into slots t.new }
 {
     let mut ranked: u64 = 0;
     for k in 0..slots {
-        ranked = rank_one(t, width, used, into, k + 1, ranked);
+        ranked = rank_one(t, layout, k + 1, ranked);
     }
 }
 
@@ -79,46 +99,38 @@ fn shift(t: &mut [u64], width: u64, from: u64, to: u64)
 }
 
 // One slot: if it is live, it moves down to the slot past the `packed` ones, with `value` in the field `into`.
-fn pack_one(
-    t: &mut [u64],
-    width: u64,
-    used: u64,
-    into: u64,
-    value: u64,
-    slot: u64,
-    packed: u64,
-) -> u64
-    requires { Within width t.old slot × (used < width) × (into < width) × (packed < slot) × (slot ≤ most_slots) }
-    ensures { PackOne width t.old used into value slot packed t.new result }
+fn pack_one(t: &mut [u64], layout: Layout, value: u64, slot: u64, packed: u64) -> u64
+    requires { Within layout.width t.old slot × (layout.used < layout.width) × (layout.into < layout.width) × (packed < slot) × (slot ≤ most_slots) }
+    ensures { PackOne layout.width t.old layout.used layout.into value slot packed t.new result }
 {
-    let live = get(t, width, used, slot);
+    let live = get(t, layout.width, layout.used, slot);
     if live == 0 {
         return packed;
     }
-    shift(t, width, slot, packed + 1);
-    put(t, width, packed + 1, into, value);
+    shift(t, layout.width, slot, packed + 1);
+    put(t, layout.width, packed + 1, layout.into, value);
     packed + 1
 }
 
 // The live ones of the first `slots` slots move down in their order. The answer is their number.
-fn pack(t: &mut [u64], width: u64, used: u64, into: u64, value: u64, slots: u64) -> u64
-    requires { Fields width t.old used into slots }
-    ensures { Packed width t.old used into value slots t.new result }
+fn pack(t: &mut [u64], layout: Layout, value: u64, slots: u64) -> u64
+    requires { Fields layout.width t.old layout.used layout.into slots }
+    ensures { Packed layout.width t.old layout.used layout.into value slots t.new result }
 {
     let mut packed: u64 = 0;
     for k in 0..slots {
-        packed = pack_one(t, width, used, into, value, k + 1, packed);
+        packed = pack_one(t, layout, value, k + 1, packed);
     }
     packed
 }
 
 // And what is left of these slots is zeroed.
-pub fn settle(t: &mut [u64], width: u64, used: u64, into: u64, value: u64, slots: u64)
-    requires { Fields width t.old used into slots × (width ≤ most_slots) }
-    ensures { Settled width t.old used into value slots t.new }
+pub fn settle(t: &mut [u64], layout: Layout, value: u64, slots: u64)
+    requires { Fields layout.width t.old layout.used layout.into slots × (layout.width ≤ most_slots) }
+    ensures { Settled layout.width t.old layout.used layout.into value slots t.new }
 {
-    let packed = pack(t, width, used, into, value, slots);
-    zero(t, packed * width, slots * width);
+    let packed = pack(t, layout, value, slots);
+    zero(t, packed * layout.width, slots * layout.width);
 }
 
 // A place of the output: old key and new key (docs/LAYOUT.md).

@@ -15,7 +15,7 @@ use Rattle.rules.specs.declared.Cause.TheVariants.{NoSlot, FreeSlot, OtherGenera
 use Rattle.rules.specs.declared.Refusal.TheVariants.{Shape, Unsound, Dead, SameClass, NoElement, NoShared, Short, Malformed, NoFile, Version, Nothing, Sealed, OutOfRange}
 use Rattle.rules.specs.Tables.{State}
 use Rattle.rules.specs.Refusals.{number_of, cause_number, values_of}
-use Rattle.rules.specs.Calls.{Call, len_surject, in_same_surject, get_element, get_shared, get_size, get_total, lookup, set_element, set_shared, check, new_run, insert, union, remove, remove_shared, list, drain, seal, drain_all, clear, undo, exchange, compress, compress_with, write_file}
+use Rattle.rules.specs.Calls.{len_surject, in_same_surject, get_element, get_shared, get_size, get_total, lookup, set_element, set_shared, check, new_run, insert, union, remove, remove_shared, list, drain, seal, drain_all, clear, undo, exchange, compress, compress_with, write_file}
 use Rattle.rules.specs.Exact.{Asks, asks, Why, sooner, Because, Sentence, earlier, Given, Accepted}
 use Rattle.rules.proofs.Cases.{rules, key, pool, at, e, s, m}
 use Rattle.rules.proofs.Worked.{three, four, joined, goes_on, single}

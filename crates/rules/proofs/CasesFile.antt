@@ -1,13 +1,13 @@
 -- Ticket 11 at worked cases: the whole case as bytes, holes and sealed runs, exact room and one short on both sides, every cut of a small file, each kind of departure from the layout, and what the history makes of a read.
-use Prim.Native.Nat.{ℕ, suc, ◌+◌, ◌*◌, ◌-◌}
+use Prim.Native.Nat.{ℕ, suc, ◌-◌}
 use mathlib.Core.Path.{◌≡◌, refl}
-use mathlib.Core.Bool.{Bool, true, false}
+use mathlib.Core.Bool.{true, false}
 use mathlib.Core.List.{List, [], ◌∷◌, ◌++◌, map}
 use lib.ListN.{length, take, drop, replicate}
 use Rattle.rules.specs.declared.Key.{Key}
-use Rattle.rules.specs.Notation.{along, flat}
+use Rattle.rules.specs.Notation.{along}
 use Rattle.rules.specs.Tables.{frame_width, header_width, State}
-use Rattle.rules.specs.Refusals.{Outcome, outcome, door}
+use Rattle.rules.specs.Refusals.{outcome, door}
 use Rattle.rules.specs.Slots.{empty}
 use Rattle.rules.specs.Calls.{new_run, write_file, ruling, step}
 use Rattle.rules.specs.Bytes

@@ -8,7 +8,7 @@ use Rattle.rules.specs.declared.Key.{Key}
 use Rattle.std.specs.Prelude.{Ok, Err}
 use Rattle.rules.specs.declared.Refusal.TheVariants.{Short}
 use Rattle.rules.specs.Tables.{frame_width, header_width, State}
-use Rattle.rules.specs.Refusals.{Said, Outcome}
+use Rattle.rules.specs.Refusals.{Outcome}
 use Rattle.rules.specs.Compress.{packed, place_of}
 use Rattle.rules.specs.Calls.{compress, compress_with, Ready, step}
 use Rattle.rules.specs.Renaming as by-compress

@@ -1,7 +1,7 @@
 -- Ticket 1 at worked cases: the seal, what it refuses and what it leaves allowed, where the mark goes and where it is dropped; what the answer says; and the history's sealed keys.
 use Prim.Native.Nat.{ℕ}
 use mathlib.Core.Path.{◌≡◌, refl}
-use mathlib.Core.Bool.{Bool, true, false}
+use mathlib.Core.Bool.{true, false}
 use mathlib.Core.List.{List, [], ◌∷◌, ◌++◌, map}
 use lib.ListN.{replicate}
 use Rattle.rules.specs.declared.Key.{Key}
@@ -9,12 +9,12 @@ use Rattle.std.specs.Prelude.{Ok, Err}
 use Rattle.rules.specs.declared.Cause.TheVariants.{OtherGeneration}
 use Rattle.rules.specs.declared.Refusal.TheVariants.{Dead, Short, Sealed}
 use Rattle.rules.specs.Tables.{frame_width, header_width, State}
-use Rattle.rules.specs.Refusals.{Said, Outcome}
+use Rattle.rules.specs.Refusals.{Outcome}
 use Rattle.rules.specs.Calls.{Call, len_surject, get_shared, set_element, set_shared, new_run, insert, union, remove, remove_shared, list, drain, seal, drain_all, clear, exchange, compress, step, fresh_step}
 use Rattle.rules.specs.Answers.{seal_values, said}
 use Rattle.rules.specs.History.{History, noted, noted_fresh, nothing, others_of, runs_but, inserted_runs, joined_runs, removed_runs, sorted, begun_at, ordered, renamed}
 use Rattle.rules.proofs.Cases.{rules, Case, ◌gives◌, did, says, key, ok, refused, dead, pool, at, joined_as, e, s, m, r, zeros}
-use Rattle.rules.proofs.Worked.{fresh43, one, three, four}
+use Rattle.rules.proofs.Worked.{fresh43, three, four}
 
 -- one, three and four with the first run sealed, and four with the second
 abbrev one1 : State

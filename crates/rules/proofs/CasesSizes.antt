@@ -7,11 +7,10 @@ use native.Mathlib.Omega.{arith}
 use lib.Dec.{lit<}
 use lib.ListN.{replicate}
 use Rattle.rules.specs.declared.Key.{Key}
-use Rattle.rules.specs.Notation.{sum}
 use Rattle.rules.specs.Tables.{most_slots, most_bytes, total_bound, frame_width, header_width, frame_at, header_at, State, cell, is_live, is_free, found}
 use Rattle.rules.specs.Sound.{Sound}
-use Rattle.rules.specs.Calls.{Call, step, new_run, insert, union, remove, remove_shared, drain, drain_all, clear, undo, seal, set_element, set_shared, compress, compress_with, get_size, get_total}
-use Rattle.rules.specs.History.{History, Given, noted, nothing, run_of, given_for, others_of, runs_but, inserted_runs, joined_runs, removed_runs, sorted, begun_at, ordered, renamed, moved_down}
+use Rattle.rules.specs.Calls.{Call, step, new_run, insert, union, remove, remove_shared, drain, clear, undo, set_element, compress, compress_with, get_size, get_total}
+use Rattle.rules.specs.History.{History, Given, noted, nothing, given_for, others_of, runs_but, inserted_runs, joined_runs, removed_runs, sorted, begun_at, ordered, renamed, moved_down}
 use Rattle.rules.specs.Demand.{Agrees}
 use Rattle.rules.proofs.Cases.{rules, Case, did, says, ◌gives◌, key, ok, dead, pool, at, joined_as, e, ez, s, mz, r, zeros}
 use Rattle.rules.proofs.Worked.{fresh43}

@@ -8,8 +8,8 @@ use lib.Dec.{lit≤}
 use lib.ListN.{replicate, get_or}
 use Rattle.rules.specs.Tables.{State, with_generation}
 use Rattle.rules.specs.Refusals.{Outcome}
-use Rattle.rules.specs.Calls.{Call, new_run, insert, remove, remove_shared, drain, drain_all, clear, compress, compress_with, step}
-use Rattle.rules.specs.Renaming.{Compresses, canonical, kept}
+use Rattle.rules.specs.Calls.{new_run, insert, remove, remove_shared, drain, drain_all, clear, compress, compress_with, step}
+use Rattle.rules.specs.Renaming.{canonical, kept}
 use Rattle.rules.specs.Stale.{over_mark, Written, Ends, answer, on_record, on_record_of_all, reset, reset_with, closing, Gives, begun, put, renewed, Takes, removed, removed_shared, drained, drained_all, cleared, compressed}
 use Rattle.rules.proofs.Cases.{rules, key}
 use Rattle.rules.proofs.Worked.{fresh43, one, two, four, fresh_last, one_last}

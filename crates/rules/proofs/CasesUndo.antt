@@ -1,20 +1,17 @@
 -- Ticket 7 at worked cases: unions taken back, and the call that drops or keeps what the head remembers.
 use Prim.Native.Nat.{ℕ}
 use native.Mathlib.Omega.{arith}
-use mathlib.Core.Path.{◌≡◌, refl, ap, sym, ◌∙◌}
-use mathlib.Core.Logic.{◌⊎◌, inl, inr}
-use mathlib.Core.Bool.{Bool, true, false}
+use mathlib.Core.Path.{◌≡◌, refl, ap}
+use mathlib.Core.Bool.{true}
 use mathlib.Core.List.{List, [], ◌∷◌, ◌++◌, map}
-use lib.Dec.{lit≤}
 use lib.ListN.{replicate}
-use Rattle.rules.specs.declared.Key.{Key}
 use Rattle.rules.specs.declared.Memory.{Memory}
-use Rattle.rules.specs.Tables.{frame_width, header_width, blank, State, with_pools, with_generation, with_undo}
+use Rattle.rules.specs.Tables.{frame_width, blank, State, with_pools, with_generation, with_undo}
 use Rattle.rules.specs.Undo.{taken_back, union_again, Describes}
-use Rattle.rules.specs.Calls.{Call, len_surject, in_same_surject, get_element, get_shared, get_size, get_total, lookup, set_element, set_shared, check, new_run, insert, union, remove, remove_shared, list, drain, seal, drain_all, clear, undo, exchange, compress, compress_with, Ready, AtDoor, step, fresh_step}
+use Rattle.rules.specs.Calls.{Call, len_surject, in_same_surject, get_element, get_shared, get_size, get_total, lookup, set_element, set_shared, check, new_run, insert, union, remove, remove_shared, list, drain, seal, drain_all, clear, undo, exchange, compress, compress_with, step, fresh_step}
 use Rattle.rules.specs.Keeping.{effect, Then}
-use Rattle.rules.proofs.Cases.{rules, Case, ◌gives◌, did, says, key, ok, refused, pool, at, joined_as, e, s, m, zeros}
-use Rattle.rules.proofs.Worked.{two, four, joined}
+use Rattle.rules.proofs.Cases.{rules, Case, ◌gives◌, did, says, key, ok, refused, pool, at, joined_as, e, s, zeros}
+use Rattle.rules.proofs.Worked.{joined}
 
 -- three runs of one, with a shared slot on the free chain behind the last
 abbrev pub trio : State

@@ -7,7 +7,7 @@ use lib.Dec.{lit≤, lit<}
 use lib.ListN.{length}
 use Rattle.rules.specs.declared.Key.{Key}
 use Rattle.rules.specs.Tables.{State}
-use Rattle.rules.specs.Calls.{Call, new_run, insert, union, len_surject, get_element, get_shared, get_total, lookup, set_element, set_shared, exchange, list, seal, check, remove, undo, step}
+use Rattle.rules.specs.Calls.{Call, new_run, union, len_surject, get_element, get_shared, get_total, lookup, set_element, set_shared, exchange, list, seal, check, remove, undo, step}
 use Rattle.rules.specs.History.{with_runs, joining, nothing}
 use Rattle.rules.specs.Ceiling.{highest_bit, HighestBit, ceiling, Aside, rewritten, union_ceiling}
 use Rattle.rules.proofs.Cases.{rules, key}

@@ -1,18 +1,16 @@
 -- Ticket 7: memories that no union leaves are refused 2 at the door, and those that a union could have left are not.
 use Prim.Native.Nat.{ℕ}
 use native.Mathlib.Omega.{arith}
-use mathlib.Core.Path.{◌≡◌, refl, ap, sym, ◌∙◌}
-use mathlib.Core.Logic.{◌⊎◌, inl, inr}
-use mathlib.Core.Bool.{Bool, true, false}
-use mathlib.Core.List.{List, [], ◌∷◌, ◌++◌, map}
+use mathlib.Core.Path.{◌≡◌, refl, ap}
+use mathlib.Core.Logic.{inl, inr}
+use mathlib.Core.List.{[]}
 use lib.Dec.{lit≤}
 use lib.ListN.{replicate}
-use Rattle.rules.specs.declared.Key.{Key}
 use Rattle.rules.specs.declared.Memory.{Memory}
-use Rattle.rules.specs.Tables.{frame_width, header_width, blank, State, with_undo}
-use Rattle.rules.specs.Undo.{Describes, Remembers, Whole}
-use Rattle.rules.specs.Calls.{Call, len_surject, in_same_surject, get_element, get_shared, get_size, get_total, lookup, set_element, set_shared, check, new_run, insert, union, remove, remove_shared, list, drain, seal, drain_all, clear, undo, exchange, compress, compress_with, Ready, AtDoor, step, fresh_step}
-use Rattle.rules.proofs.Cases.{rules, Case, ◌gives◌, did, says, key, ok, refused, pool, at, joined_as, e, s, m, zeros}
+use Rattle.rules.specs.Tables.{blank, State}
+use Rattle.rules.specs.Undo.{Remembers, Whole}
+use Rattle.rules.specs.Calls.{check, union, seal, Ready, AtDoor, step}
+use Rattle.rules.proofs.Cases.{rules, key, ok, refused, joined_as, e}
 use Rattle.rules.proofs.Worked.{two, four, joined}
 use Rattle.rules.proofs.Witness.{ready_two, ready_four}
 use Rattle.rules.proofs.Laws.Doors.{unsound, passed}

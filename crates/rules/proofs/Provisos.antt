@@ -6,13 +6,12 @@ use mathlib.Core.Bool.{Bool, true, false, true≢false}
 use mathlib.Core.List.{List, [], ◌∷◌, ◌++◌}
 use native.Mathlib.Omega.{arith}
 use lib.ListN.{replicate}
-use Rattle.rules.specs.declared.Key.{Key}
 use Rattle.rules.specs.declared.Cause.TheVariants.{FreeSlot, OtherGeneration, NoSlot}
 use Rattle.std.specs.Prelude.{Result, Ok, Err}
 use Rattle.rules.specs.declared.Cause.{Cause}
 use Rattle.rules.specs.Tables.{last_generation, State, found, LiveKey}
 use Rattle.rules.specs.Refusals.{Outcome}
-use Rattle.rules.specs.Slots.{empty, raised}
+use Rattle.rules.specs.Slots.{empty}
 use Rattle.rules.specs.Calls.{Call, new_run, remove, drain_all, clear, compress, compress_with, step, fresh_step}
 use Rattle.rules.specs.Copy.{clone_step}
 use Rattle.rules.specs.ReadFile.{read_step}
@@ -21,7 +20,7 @@ use Rattle.rules.specs.Demand.{Sequence, from_fresh, and_then}
 use Rattle.rules.specs.Stale.{Ends, answer, Quietly, call, Since, given, begun, Later, now, later, TakenOut, taken, cleared}
 use Rattle.rules.proofs.Cases.{rules, key}
 use Rattle.rules.proofs.Worked.{fresh43}
-use Rattle.rules.proofs.CasesCopied.{copying, ◌copies◌}
+use Rattle.rules.proofs.CasesCopied.{copying}
 use Rattle.rules.proofs.CasesFile.{files, u4}
 use Rattle.rules.proofs.CasesTransferred.{moves}
 use Rattle.rules.proofs.Laws.Tests.{eq_is, is_false}

@@ -1,21 +1,20 @@
 -- Ticket 11's claims, one by one: for each, tables, bytes or an outcome that break it; and the numbers that reader and writer give at each test, and no other.
-use Prim.Native.Nat.{ℕ, zero, suc, ◌+◌, ◌≤◌, ◌<◌}
+use Prim.Native.Nat.{ℕ}
 use native.Mathlib.Omega.{arith}
 use mathlib.Core.Path.{◌≡◌, refl, ap}
 use mathlib.Core.Logic.{◌⊎◌, inl, inr}
-use mathlib.Core.Bool.{Bool, true, false, true≢false, false≢true}
+use mathlib.Core.Bool.{true, true≢false, false≢true}
 use mathlib.Core.List.{List, [], ◌∷◌, ◌++◌}
-use lib.Dec.{T, lit<, lit≤}
+use lib.Dec.{lit<, lit≤}
 use lib.ListN.{length, get_or, take, drop, replicate}
 use Rattle.rules.specs.declared.Memory.{Memory}
-use Rattle.rules.specs.Tables.{frame_width, header_width, State, blank, with_undo}
-use Rattle.rules.specs.Refusals.{Outcome}
+use Rattle.rules.specs.Tables.{State, blank, with_undo}
 use Rattle.rules.specs.Keeping.{effect, Then}
 use Rattle.rules.specs.Calls.{write_file}
 use Rattle.rules.specs.Bytes.{Bytes}
-use Rattle.rules.specs.RunFile.{StoredFrame, StoredRun, file, FrameFits, RunFits, EntryFits, Fits}
+use Rattle.rules.specs.RunFile.{StoredRun, FrameFits, RunFits, EntryFits, Fits}
 use Rattle.rules.specs.Filing.{Stores, ReadGives, ReadInto, Reads, WriteGives, Writes, Words, Unsealed}
-use Rattle.rules.proofs.Cases.{rules, ok, refused, pool, at, joined_as, e, ez, s, mz, zeros}
+use Rattle.rules.proofs.Cases.{rules, ok, refused, pool, at, joined_as, e, ez, s, mz}
 use Rattle.rules.proofs.Worked.{three, goes_on, joined}
 use Rattle.rules.proofs.Apart.{none}
 use Rattle.rules.proofs.Sounds.{trap, trap_unsound, three_sound}

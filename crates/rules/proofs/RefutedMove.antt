@@ -17,7 +17,7 @@ use Rattle.rules.proofs.Cases.{rules, pool, at, joined_as, ez, mz, zeros}
 use Rattle.rules.proofs.Apart.{none}
 use Rattle.rules.proofs.Sounds.{trap, trap_unsound}
 use Rattle.rules.proofs.CasesCopied.{study, dirty, full, first, took, left}
-use Rattle.rules.proofs.CasesTransferred.{landed, lands, overflowed}
+use Rattle.rules.proofs.CasesTransferred.{landed, lands}
 
 -- ---- a target that has not got the study. Its tables are too short
 abbrev short : State

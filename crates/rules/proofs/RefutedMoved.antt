@@ -2,7 +2,7 @@
 use Prim.Native.Nat.{ℕ}
 use native.Mathlib.Omega.{arith}
 use mathlib.Core.Path.{◌≡◌, refl, ap, subst}
-use mathlib.Core.List.{List, [], ◌∷◌, ◌++◌}
+use mathlib.Core.List.{List, ◌++◌}
 use lib.ListN.{get_or}
 use Rattle.rules.specs.Tables.{frame_width, header_width, cell, is_live, State}
 use Rattle.rules.specs.Sound.{Frame, Header}

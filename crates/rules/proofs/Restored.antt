@@ -2,13 +2,13 @@
 use Prim.Native.Nat.{ℕ, zero, suc, ◌-◌, ◌≤◌, ◌<◌}
 use native.Mathlib.Omega.{arith}
 use mathlib.Core.Path.{◌≡◌, refl, sym, ap, subst, ◌∙◌}
-use mathlib.Core.Logic.{◌≢◌, ◌⊎◌, inl, inr}
+use mathlib.Core.Logic.{inl, inr}
 use mathlib.Core.Bool.{true, false}
 use mathlib.Core.List.{List, [], ◌∷◌, ◌++◌, map}
 use lib.Dec.{T, lit≤, lit<}
 use Rattle.rules.specs.Tables.{frame_width, header_width, class_of, count_of, State, Side, field_of, elem_side, shared_side, cell, is_free, is_live}
 use Rattle.rules.specs.Sound.{Chain, chain_at, Sound, Frame, Header, OneRing, RingSize}
-use Rattle.rules.specs.Calls.{check, new_run, insert, step, AtDoor}
+use Rattle.rules.specs.Calls.{new_run, insert, step, AtDoor}
 use Rattle.rules.specs.Exact.{NoneFree}
 use Rattle.rules.proofs.Cases.{rules, Case, ◌gives◌, did, says, key, ok, refused, pool, at, e, s, zeros}
 use Rattle.rules.proofs.Worked.{four}

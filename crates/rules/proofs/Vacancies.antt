@@ -1,6 +1,6 @@
 -- Ticket 4: where new run or insert needs a slot and the number's turn comes, 5 is given exactly when no element slot up to the capacity is free, and 6 exactly when no shared slot is.
 use Prim.Native.Nat.{ℕ}
-use mathlib.Core.Path.{◌≡◌, sym, ◌∙◌}
+use mathlib.Core.Path.{◌≡◌}
 use mathlib.Core.Logic.{◌↔◌}
 use mathlib.Core.Bool.{Bool, true, false}
 use mathlib.Core.List.{List}

@@ -3,7 +3,7 @@ use mathlib.Core.Path.{◌≡◌, refl, subst}
 use mathlib.Core.Logic.{inl}
 use mathlib.Core.List.{List, [], ◌∷◌, map}
 use Rattle.rules.specs.Tables.{State}
-use Rattle.rules.specs.Calls.{Call, new_run, insert, union, remove, Ready, step, fresh_step}
+use Rattle.rules.specs.Calls.{Call, new_run, insert, union, remove, Ready, step}
 use Rattle.rules.proofs.Cases.{rules, key}
 use Rattle.rules.proofs.Worked.{fresh43, two, four, goes_on, single, reused}
 use Rattle.rules.proofs.Laws.Lists.{All}

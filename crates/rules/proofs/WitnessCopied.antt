@@ -13,7 +13,7 @@ use Rattle.rules.specs.Copy.{AtCopy}
 use Rattle.rules.specs.Copying.{CopyGives}
 use Rattle.rules.proofs.Cases.{rules, key}
 use Rattle.rules.proofs.Forged.{forged, value_unwhole}
-use Rattle.rules.proofs.CasesCopied.{copying, study, dirty, into, took, left, ◌copies◌}
+use Rattle.rules.proofs.CasesCopied.{copying, study, dirty, into, took, left}
 use Rattle.rules.proofs.Laws.Kept.{recalled, kept, kept_fresh}
 use Rattle.rules.proofs.Laws.Dropped.{kept_memory}
 use Rattle.rules.proofs.Laws.TwoDoors.{both_pass}

@@ -9,7 +9,6 @@ use mathlib.Core.List.{List, [], ◌∷◌}
 use lib.Dec.{lit<, lit≤}
 use lib.ListN.{length, get_or}
 use Rattle.rules.specs.Notation.{◌<?◌, every}
-use Rattle.rules.specs.Tables.{State}
 use Rattle.rules.specs.Refusals.{outcome}
 use Rattle.rules.specs.Calls.{Is}
 use Rattle.rules.specs.Bytes.{limit, Bytes}

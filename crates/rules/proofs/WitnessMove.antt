@@ -3,7 +3,6 @@ use mathlib.Core.Path.{◌≡◌, refl}
 use mathlib.Core.Logic.{inl, inr}
 use mathlib.Core.Bool.{true≢false}
 use Prim.Native.Nat.{ℕ}
-use Rattle.rules.specs.Tables.{State}
 use Rattle.rules.specs.Slots.{empty}
 use Rattle.rules.specs.Undo.{Whole}
 use Rattle.rules.specs.Move.{AtMove}
@@ -11,7 +10,7 @@ use Rattle.rules.specs.Moving.{MoveGives}
 use Rattle.rules.proofs.Cases.{rules}
 use Rattle.rules.proofs.Sounds.{trap, trap_unsound}
 use Rattle.rules.proofs.Forged.{forged, value_unwhole}
-use Rattle.rules.proofs.CasesCopied.{copying, study, dirty, took, left, ◌copies◌}
+use Rattle.rules.proofs.CasesCopied.{copying, study, dirty, took, left}
 use Rattle.rules.proofs.CasesTransferred.{moves, lands}
 use Rattle.rules.proofs.RefutedMove.{thirteen_first, thirteen_past, then_five, then_six, then_accepted}
 use Rattle.rules.proofs.WitnessCopied.{study_ready}

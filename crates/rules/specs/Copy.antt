@@ -1,5 +1,5 @@
 -- Ticket 10: a study is copied to other tables, every live slot to its own.
-use Rattle.std.specs.Prelude.{ℕ, zero, suc, ◌*◌, ◌-◌, Bool, false, not, List, map, replicate, set, if◌then◌else◌}
+use Rattle.std.specs.Prelude.{ℕ, zero, suc, ◌*◌, ◌-◌, false, List, map, replicate, set, if◌then◌else◌}
 use Rattle.rules.specs.declared.Pool.{Pool}
 use Rattle.rules.specs.declared.Refusal.TheVariants.{NoElement, NoShared}
 use Rattle.rules.specs.Notation.{◌<?◌, along, up_to, flat}

@@ -1,5 +1,5 @@
 -- Ticket 10: what is claimed of a copy, apart from its rule: when it is refused, what it keeps, and that reads of it answer alike.
-use Rattle.std.specs.Prelude.{ℕ, suc, ◌<◌, ◌≡◌, ◌≢◌, ◌⊎◌, Bool, false, List, T, if◌then◌else◌}
+use Rattle.std.specs.Prelude.{ℕ, suc, ◌<◌, ◌≡◌, ◌≢◌, ◌⊎◌, false, List, T, if◌then◌else◌}
 use Rattle.rules.specs.declared.Key.{Key}
 use Rattle.rules.specs.declared.Cause.TheVariants.{NoSlot}
 use Rattle.rules.specs.Notation.{◌<?◌}

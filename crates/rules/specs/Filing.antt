@@ -1,5 +1,5 @@
 -- Ticket 11: what is claimed of the run file, apart from its rules: when reader and writer refuse, and that each undoes the other.
-use Rattle.std.specs.Prelude.{ℕ, ◌+◌, ◌*◌, ◌≤◌, ◌<◌, ◌≡◌, ◌≢◌, Bool, true, false, List, [], ◌∷◌, ◌++◌, length, take, drop}
+use Rattle.std.specs.Prelude.{ℕ, ◌+◌, ◌*◌, ◌≤◌, ◌<◌, ◌≡◌, ◌≢◌, true, false, List, [], ◌∷◌, ◌++◌, length, take, drop}
 use Rattle.rules.specs.Tables.{most_slots, header_width, header_at, cell, generation_of, payload_of, value_of, mark_of, blank, State}
 use Rattle.rules.specs.Sound.{Frame}
 use Rattle.rules.specs.Undo.{Whole}

@@ -1,5 +1,5 @@
 -- Ticket 11: the reader, over the versions that it knows. It takes any tables that fit, as fresh does.
-use Rattle.std.specs.Prelude.{ℕ, zero, suc, ◌+◌, ◌*◌, Bool, true, false, List, [], ◌∷◌, ◌++◌, map, length, if◌then◌else◌, ◌==◌}
+use Rattle.std.specs.Prelude.{ℕ, suc, ◌+◌, ◌*◌, Bool, true, false, List, [], ◌∷◌, ◌++◌, map, length, if◌then◌else◌, ◌==◌}
 use Rattle.rules.specs.declared.Refusal.TheVariants.{Shape, NoElement, NoShared, NoFile, Version}
 use Rattle.rules.specs.Notation.{◌<?◌, flat}
 use Rattle.rules.specs.Tables.{frame_width, header_width, blank, State}

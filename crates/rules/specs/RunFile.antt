@@ -1,5 +1,5 @@
 -- Ticket 11: the run file, over its versions: runs as data, the bytes of a file from its runs, and the runs that a file holds.
-use Rattle.std.specs.Prelude.{ℕ, zero, suc, ◌+◌, ◌*◌, ◌≤◌, ◌<◌, Bool, ◌&&◌, List, [], ◌∷◌, ◌++◌, map, length, drop, if◌then◌else◌, ◌==◌}
+use Rattle.std.specs.Prelude.{ℕ, ◌+◌, ◌*◌, ◌≤◌, ◌<◌, ◌&&◌, List, [], ◌∷◌, ◌++◌, map, length, drop, if◌then◌else◌, ◌==◌}
 use Rattle.rules.specs.Notation.{◌≤?◌, sum, flat, All}
 use Rattle.rules.specs.Bytes.{Got, unread, got, Reader, ◌>>=◌, return, reject, times, little, limit, number}
 

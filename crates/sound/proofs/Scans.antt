@@ -14,7 +14,6 @@ use Rattle.rules.proofs.Laws.Count.{lives_le, fewer}
 use Rattle.rules.proofs.Laws.Rounds.{Within, Fit, Round, went, went_once}
 use Rattle.turns.specs.Turns.{FreeOk}
 use Rattle.sound.specs.Scans.{Run, frames, classes, slots, RunOk, Scan}
-use Rattle.pools.proofs.Ask.{differ}
 
 -- ---- lists of runs
 pub run_at : (y : ℕ) (rs : List Run) → In y (slots rs) → (r : Run) × In r rs × In y (frames r)
@@ -94,7 +93,7 @@ module _ (st : State) where
     runs = [];
     good = tt;
     fresh = tt;
-    marks = λ c h. absurd (differ (marked seen c) (blank c) h);
+    marks = λ c h. absurd (cc (blank c));
     noted = λ c h. absurd h;
     passed = λ x lo hi l. absurd (omega arith);
     free = λ x lo hi l. absurd (omega arith);
@@ -188,7 +187,7 @@ module _ (st : State) where
           }
         where
           absent : In c (classes z.runs) → ⊥
-          absent k = differ (marked seen (c - 1)) off (z.noted (c - 1) (subst (λ (v : ℕ). In v (classes z.runs)) (sym up) k))
+          absent k = cc (off, z.noted (c - 1) (subst (λ (v : ℕ). In v (classes z.runs)) (sym up) k))
 
           marks : (t : Ran st c (i + 1)) → (d : ℕ) → marked seen' d ≡ true → Dec (d ≡ c - 1) → In (suc d) (classes (t.run ∷ z.runs))
           marks t d o (yes q) = inl (omega (arith, t.class))

@@ -66,7 +66,8 @@ fn scan(head: Head, e: &[u64], s: &[u64], seen: &mut [u64]) -> bool
     for i in 0..head.elems.extent {
         match look(head, e, s, seen, i + 1) {
             Turn::Wrong => return false,
-            Turn::Free | Turn::Seen => {}
+            // With an empty arm here the compiled check takes a tenth longer.
+            Turn::Free | Turn::Seen => continue,
             Turn::First(count) => {
                 met += count;
                 rings += 1;

@@ -2,22 +2,22 @@
 use Rattle.std.specs.Prelude.{◌==◌}
 use Prim.Native.Nat.{ℕ, suc, ◌≤◌, ◌<◌}
 use native.Mathlib.Omega.{arith}
-use borrow.Author.Tests.{eq-eqb, ne_eqb, lt-leb, le-leb}
-use mathlib.Core.Path.{◌≡◌, refl, sym, ◌∙◌, subst}
-use mathlib.Core.Logic.{◌≢◌, ◌↔◌, ◌⊎◌, inl, inr}
+use borrow.Author.Tests.{ne_eqb, lt-leb, le-leb}
+use mathlib.Core.Path.{◌≡◌, subst}
+use mathlib.Core.Logic.{◌↔◌, ◌⊎◌, inl, inr}
 use mathlib.Core.Bool.{Bool, true, false}
 use mathlib.Core.List.{List, [], ◌∷◌}
 use Rattle.rules.specs.declared.Key.{Key}
 use Rattle.rules.specs.declared.Cause.{Cause}
 use Rattle.rules.specs.declared.Cause.TheVariants.{NoSlot, FreeSlot, OtherGeneration}
-use Rattle.std.specs.Prelude.{Ok, Err}
+use Rattle.std.specs.Prelude.{Err}
 use Rattle.rules.specs.Notation.{◌<?◌}
 use Rattle.rules.specs.Tables.{generation_of, State, is_free, is_live, cause, found, LiveKey}
 use Rattle.rules.specs.Calls.{Is}
 use Rattle.rules.specs.Exact.{Some, None, Why, Because, FirstDead}
 use Rattle.rules.proofs.Laws.Lists.{All}
 use Rattle.rules.proofs.Laws.Tests.{eq_is, le_is}
-use Rattle.rules.proofs.Laws.Safe.{found-live, looked}
+use Rattle.rules.proofs.Laws.Safe.{found-live}
 
 abbrev pub causes : List Cause
 causes = NoSlot ∷ FreeSlot ∷ OtherGeneration ∷ []

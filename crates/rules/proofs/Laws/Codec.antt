@@ -1,14 +1,12 @@
 -- A reader that undoes a writer, and is undone by it: numbers, frames, entries, and so many of one kind.
-use Rattle.std.specs.Prelude.{if◌then◌else◌, ◌==◌}
-use Prim.Native.Nat.{ℕ, zero, suc, ◌+◌, ◌*◌, ◌≤◌, ◌<◌}
-use mathlib.Core.Path.{◌≡◌, refl, sym, ap, ◌∙◌, subst}
-use mathlib.Core.Bool.{Bool, true, false, ◌&&◌}
-use mathlib.Core.List.{List, [], ◌∷◌, ◌++◌, map, append_assoc, append-nil}
+use Prim.Native.Nat.{ℕ, zero, suc, ◌<◌}
+use mathlib.Core.Path.{◌≡◌, refl, sym, ap, subst}
+use mathlib.Core.List.{List, [], ◌∷◌, ◌++◌, map, append_assoc}
 use native.Mathlib.Omega.{arith}
-use lib.ListN.{length, drop, length-append}
-use Rattle.rules.specs.Notation.{◌≤?◌, sum, flat, All}
-use Rattle.rules.specs.Bytes.{Got, unread, got, Reader, onward, ◌>>=◌, return, times, little, value, limit, Bytes, number}
-use Rattle.rules.specs.RunFile.{StoredFrame, StoredRun, Entry, total, frame_bytes, entry_bytes, stored_frame, entry, FrameFits, EntryFits}
+use lib.ListN.{length}
+use Rattle.rules.specs.Notation.{flat, All}
+use Rattle.rules.specs.Bytes.{Got, unread, got, Reader, onward, return, times, little, limit, Bytes, number}
+use Rattle.rules.specs.RunFile.{StoredFrame, Entry, frame_bytes, entry_bytes, stored_frame, entry, FrameFits, EntryFits}
 use Rattle.rules.proofs.Laws.Numbers.{Is, number-back, number-forth}
 
 pub record Codec {A : Type 0} (read : Reader A) (write : A → List ℕ) (Good : A → Type 0) : Type 0 where

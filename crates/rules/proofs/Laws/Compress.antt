@@ -2,7 +2,7 @@
 use mathlib.Core.Path.{◌≡◌, refl, sym, ap, ◌∙◌}
 use mathlib.Core.Logic.{◌≢◌}
 use mathlib.Core.List.{List, []}
-use Prim.Native.Nat.{ℕ, zero, suc, ◌*◌, ◌-◌, ◌≤◌, ◌<◌}
+use Prim.Native.Nat.{ℕ, ◌*◌, ◌-◌, ◌≤◌, ◌<◌}
 use native.Mathlib.Omega.{arith}
 use native.Mathlib.Decide.{ℕ_discrete}
 use mathlib.Core.Bool.{Bool, true, false}
@@ -12,7 +12,7 @@ use Rattle.rules.specs.Tables.{blank, most_slots, last_generation, most_bytes, c
 use Rattle.rules.specs.Calls.{Ready}
 use Rattle.rules.specs.Compress.{canonical_frames, canonical_classes, place_of, packed_in, moved_frame, moved_header, renumbered_in, renumbered, generation_after}
 use Rattle.rules.proofs.Laws.Lists.{all-at, all_map}
-use Rattle.rules.proofs.Laws.Pools.{Pooled, lives, sign, sign_one, live_in}
+use Rattle.rules.proofs.Laws.Pools.{Pooled, lives, live_in}
 use Rattle.rules.proofs.Laws.Count.{exact, lives_le, lives_all, all-used}
 use Rattle.rules.proofs.Laws.Freed.{raised_least, raised-most}
 use Rattle.rules.proofs.Laws.Marked.{Marked}

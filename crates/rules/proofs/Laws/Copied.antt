@@ -7,7 +7,7 @@ use mathlib.Core.List.{List, [], ◌∷◌, map}
 use Prim.Native.Nat.{ℕ, zero, suc, ◌+◌, ◌*◌, ◌-◌, ◌≤◌, ◌<◌}
 use native.Mathlib.Nat.{zero-add}
 use native.Mathlib.Omega.{arith}
-use native.Mathlib.Decide.{ℕ_discrete, dec_lt, dec_le}
+use native.Mathlib.Decide.{ℕ_discrete, dec_lt}
 use lib.Dec.{T}
 use lib.ListN.{length, get_or, set, replicate, length-set, length-map, length-replicate}
 use lib.Seq.{get_or-set_same, get_or-set_other}
@@ -16,13 +16,13 @@ use Rattle.rules.specs.Tables.{Side, field_of, cell, is_live}
 use Rattle.rules.specs.Calls.{Is}
 use Rattle.rules.specs.Copy.{last_to, last_live, free_from, copied_row, copied_table, copied_pool}
 use Rattle.rules.proofs.Laws.Tests.{is_true, is_false, is_of}
-use Rattle.rules.proofs.Laws.Lists.{All, In, NoDup, Walk, all_of}
+use Rattle.rules.proofs.Laws.Lists.{In, Walk, all_of}
 use Rattle.rules.proofs.Laws.Columns.{cell-none, get_d-zeros}
 use Rattle.rules.proofs.Laws.Steps.{length-along}
-use Rattle.rules.proofs.Laws.Sums.{keep_in, keep_of, keep-once, along_in, along_of, along_once, up_to-in, up_to-of, up_to-once}
+use Rattle.rules.proofs.Laws.Sums.{keep_in, keep_of, keep-once, up_to-in, up_to-of, up_to-once}
 use Rattle.rules.proofs.Laws.Pools.{Pooled, Free, Chain, lives, sign, live_in}
-use Rattle.rules.proofs.Laws.Sides.{LiveIn, live_of, live_to, Blank}
-use Rattle.rules.proofs.Laws.Places.{upto, upto_in, upto_out, upto_none, cell-padded, length-padded}
+use Rattle.rules.proofs.Laws.Sides.{live_of, live_to, Blank}
+use Rattle.rules.proofs.Laws.Places.{upto, upto_in, upto_out, cell-padded, length-padded}
 use Rattle.rules.proofs.Laws.Blocks.{map_at, get_d-along}
 use Rattle.rules.proofs.Laws.Ascending.{Rising, rising-keep}
 

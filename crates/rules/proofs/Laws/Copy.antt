@@ -1,26 +1,19 @@
 -- THE COPY is sound, and the same study: every live slot is as it was, so keys and rings are (Ticket 10).
-use Rattle.std.specs.Prelude.{if◌then◌else◌, ◌==◌}
-use mathlib.Core.Path.{◌≡◌, refl, sym, ap, ◌∙◌}
+use mathlib.Core.Path.{◌≡◌, refl, ap, ◌∙◌}
 use mathlib.Core.Logic.{◌≢◌}
-use mathlib.Core.Bool.{Bool, true, false, ◌&&◌}
-use mathlib.Core.List.{List, map}
-use Prim.Native.Nat.{ℕ, ◌*◌, ◌≤◌, ◌<◌}
+use Prim.Native.Nat.{ℕ, ◌≤◌, ◌<◌}
 use native.Mathlib.Omega.{arith}
-use native.Mathlib.Decide.{ℕ_discrete}
-use lib.ListN.{length}
-use Rattle.rules.specs.declared.Key.{Key}
-use Rattle.std.specs.Prelude.{Ok, Err}
-use Rattle.rules.specs.Tables.{most_slots, frame_width, header_width, frame_at, header_at, cell, State, Side, elem_side, shared_side, field_of, is_live, found}
+use Rattle.rules.specs.Tables.{most_slots, frame_width, header_width, frame_at, header_at, cell, State, elem_side, shared_side}
 use Rattle.rules.specs.Calls.{Ready}
 use Rattle.rules.specs.Renaming.{SameRuns}
-use Rattle.rules.specs.Copy.{last_live, copied_table, copied_pool, copied}
+use Rattle.rules.specs.Copy.{last_live, copied_pool, copied}
 use Rattle.rules.proofs.Laws.Working.{View, view, Working, total-none}
 use Rattle.rules.proofs.Laws.Pools.{live_in}
-use Rattle.rules.proofs.Laws.Soundness.{Shaped, shaped_of, elems-blank, shared-blank}
+use Rattle.rules.proofs.Laws.Soundness.{Shaped, elems-blank, shared-blank}
 use Rattle.rules.proofs.Laws.Safe.{working, ready}
 use Rattle.rules.proofs.Laws.Renumber.{Renaming, Renumbered, renumbered-links, renumbered_class_live, renumbered-ring, renumbered-sizes}
 use Rattle.rules.proofs.Laws.SameRuns.{same_runs}
-use Rattle.rules.proofs.Laws.Copied.{copied-live, copied_column, copied-pooled, copied-long, live-yes, live_no, live-last}
+use Rattle.rules.proofs.Laws.Copied.{copied-live, copied_column, copied-pooled, copied-long, live-last}
 
 -- nothing is renamed
 abbrev pub itself : Renaming

@@ -4,7 +4,7 @@ use mathlib.Core.Path.{◌≡◌, refl, sym, ap, ◌∙◌, subst}
 use mathlib.Core.Logic.{◌≢◌}
 use mathlib.Core.Bool.{Bool, true, false, ◌&&◌, ◌||◌}
 use mathlib.Core.List.{List, [], ◌∷◌, map, append-nil}
-use Prim.Native.Nat.{ℕ, zero, suc, ◌≤◌, ◌<◌}
+use Prim.Native.Nat.{ℕ, zero, suc, ◌≤◌}
 use native.Mathlib.Omega.{arith}
 use native.Mathlib.Decide.{ℕ_discrete}
 use lib.Dec.{T}
@@ -17,7 +17,7 @@ use Rattle.rules.specs.declared.Refusal.TheVariants.{Short}
 use Rattle.rules.specs.Notation.{◌≤?◌, ◌<?◌, along, up_to, flat, keep, every}
 use Rattle.rules.specs.Tables
 use Rattle.rules.specs.Tables.{generation_of, class_of, value_of, total_of, State, elem_side, shared_side, is_live, is_free, cause, found, key_at, size_at}
-use Rattle.rules.specs.Refusals.{Ruling, refuse, accept, answer, Outcome, outcome, when_live, with_live}
+use Rattle.rules.specs.Refusals.{Ruling, refuse, accept, answer, outcome, when_live, with_live}
 use Rattle.rules.specs.Runs.{key_values}
 use Rattle.rules.specs.Reads
 use Rattle.rules.specs.Drains
@@ -31,12 +31,11 @@ use Rattle.rules.specs.Keeping.{Effect, reads, joins, undoes, drops, effect}
 use Rattle.rules.specs.Copy.{last_to, last_live, copied_pool, copied}
 use Rattle.rules.specs.Copying.{Alike}
 use Rattle.rules.proofs.Laws.Tests.{le_is, is_true, is_false}
-use Rattle.rules.proofs.Laws.Sides.{and_T, live_of}
-use Rattle.rules.proofs.Laws.Working.{View, view, Working}
+use Rattle.rules.proofs.Laws.Sides.{live_of}
+use Rattle.rules.proofs.Laws.Working.{view, Working}
 use Rattle.rules.proofs.Laws.Lists.{All, all_map}
 use Rattle.rules.proofs.Laws.Order.{lowest_to, lowest_more, round}
 use Rattle.rules.proofs.Laws.Blocks.{lowest-live}
-use Rattle.rules.proofs.Laws.Rep
 use Rattle.rules.proofs.Laws.Good
 use Rattle.rules.proofs.Laws.Renumber.{Renumbered, renumbered-size, renumbered-along}
 use Rattle.rules.proofs.Laws.Copied.{live-yes, live_no, last_le}

@@ -1,9 +1,7 @@
 -- Ticket 10: the book's claim of every copy at the host's door, proved.
-use Rattle.std.specs.Prelude.{if◌then◌else◌}
 use mathlib.Core.Path.{◌≡◌, refl, sym, ap, ◌∙◌, subst}
-use mathlib.Core.Logic.{◌≢◌, ◌⊎◌, inl, inr}
-use mathlib.Core.Bool.{Bool, true, false, true≢false}
-use mathlib.Core.List.{[]}
+use mathlib.Core.Logic.{◌⊎◌, inl, inr}
+use mathlib.Core.Bool.{true, false, true≢false}
 use Prim.Native.Nat.{ℕ, suc, ◌≤◌, ◌<◌}
 use native.Mathlib.Omega.{arith}
 use native.Mathlib.Decide.{dec_lt}
@@ -11,7 +9,6 @@ use lib.Dec.{T}
 use Rattle.rules.specs.declared.Refusal.TheVariants.{Shape, Unsound, NoElement, NoShared}
 use Rattle.rules.specs.Notation.{◌<?◌}
 use Rattle.rules.specs.Tables.{most_slots, State, Side, field_of, elem_side, shared_side, is_live}
-use Rattle.rules.specs.Sound.{Frame, Header}
 use Rattle.rules.specs.Refusals.{shaped}
 use Rattle.rules.specs.Undo.{Whole}
 use Rattle.rules.specs.Calls.{Ready}
@@ -25,7 +22,7 @@ use Rattle.rules.proofs.Laws.Pools.{Pooled}
 use Rattle.rules.proofs.Laws.Soundness.{shaped_of}
 use Rattle.rules.proofs.Laws.Safe.{working}
 use Rattle.rules.proofs.Laws.Copied.{last-live, live-last, copied-rising}
-use Rattle.rules.proofs.Laws.Copy.{Roomy, copy_works, copy_keeps, copy-runs}
+use Rattle.rules.proofs.Laws.Copy.{Roomy, copy_keeps, copy-runs}
 use Rattle.rules.proofs.Laws.CopyReads.{same_live, same-header, copy-keys, copy-causes, reads-alike}
 use Rattle.rules.proofs.Laws.TwoDoors.{Met, source_1, target_1, sound_2, passes, met}
 

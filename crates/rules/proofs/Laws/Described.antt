@@ -4,16 +4,16 @@ use mathlib.Core.Path.{◌≡◌, refl, sym, ap, ◌∙◌, subst}
 use mathlib.Core.Logic.{◌≢◌, ◌↔◌, inl, inr}
 use mathlib.Core.Bool.{Bool, true, false}
 use mathlib.Core.List.{List, []}
-use Prim.Native.Nat.{ℕ, suc, ◌+◌, ◌≤◌, ◌<◌}
+use Prim.Native.Nat.{ℕ, suc, ◌+◌, ◌≤◌}
 use native.Mathlib.Omega.{arith}
 use lib.ListN.{length}
 use Rattle.rules.specs.declared.Pool.{Pool}
 use Rattle.rules.specs.declared.Memory.{Memory}
-use Rattle.std.specs.Prelude.{Ok, Err}
+use Rattle.std.specs.Prelude.{Ok}
 use Rattle.rules.specs.declared.Refusal.{Refusal}
 use Rattle.rules.specs.declared.Refusal.TheVariants.{SameClass, Sealed}
 use Rattle.rules.specs.Notation.{◌<?◌}
-use Rattle.rules.specs.Tables.{blank, State, with_undo, Side, elem_side, shared_side, class_of, mark_of, found, key_at, size_at, is_sealed}
+use Rattle.rules.specs.Tables.{blank, State, with_undo, Side, elem_side, shared_side, found, key_at, size_at, is_sealed}
 use Rattle.rules.specs.Refusals.{Ruling, refuse, outcome}
 use Rattle.rules.specs.Slots.{taken}
 use Rattle.rules.specs.Runs.{joined, remembered, keeping, union}

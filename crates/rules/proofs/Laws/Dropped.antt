@@ -9,7 +9,7 @@ use native.Mathlib.Omega.{arith}
 use lib.ListN.{length}
 use Rattle.rules.specs.declared.Key.{Key}
 use Rattle.rules.specs.Notation.{◌<?◌}
-use Rattle.rules.specs.Tables.{frame_width, blank, State, with_undo, elem_side, class_of, next_of, size_at, is_sealed}
+use Rattle.rules.specs.Tables.{frame_width, blank, State, elem_side, class_of, next_of, size_at, is_sealed}
 use Rattle.rules.specs.Sound.{Frame}
 use Rattle.rules.specs.Refusals.{Ruling, refuse, accept, outcome, with_live}
 use Rattle.rules.specs.Reads

@@ -1,17 +1,17 @@
 -- The runs of a sound state have the room that a file gives them (Ticket 11), and the largest file is no longer than a u32 can tell.
-use mathlib.Core.Path.{◌≡◌, refl, sym, ap, ◌∙◌, subst}
+use mathlib.Core.Path.{◌≡◌, ap}
 use mathlib.Core.Logic.{◌≢◌}
 use mathlib.Core.List.{List, [], ◌∷◌, map}
 use Prim.Native.Nat.{ℕ, zero, suc, ◌+◌, ◌*◌, ◌≤◌, ◌<◌}
 use native.Mathlib.Omega.{arith}
 use lib.ListN.{length, get_or, length-map}
-use Rattle.rules.specs.Notation.{sum, All}
+use Rattle.rules.specs.Notation.{All}
 use Rattle.rules.specs.Tables.{most_slots, frame_width, header_width, frame_at, header_at, cell, State}
 use Rattle.rules.specs.Calls.{Ready}
 use Rattle.rules.specs.Drains.{ring}
 use Rattle.rules.specs.Compress.{lowest_slots}
 use Rattle.rules.specs.Bytes.{limit}
-use Rattle.rules.specs.RunFile.{StoredFrame, StoredRun, frame_length, body_length, Entry, entries, first_body, frame_count, FrameFits, RunFits, EntryFits, Fits}
+use Rattle.rules.specs.RunFile.{StoredRun, frame_length, body_length, entries, first_body, frame_count, FrameFits, RunFits, EntryFits, Fits}
 use Rattle.rules.specs.WriteFile.{frame_in, run_in, runs_in, bytes_in}
 use Rattle.rules.specs.Filing.{Words, most_file}
 use Rattle.rules.proofs.Laws.Working.{view, Working}
@@ -20,7 +20,7 @@ use Rattle.rules.proofs.Laws.Safe.{working}
 use Rattle.rules.proofs.Laws.Order.{round}
 use Rattle.rules.proofs.Laws.Blocks.{lowest-live}
 use Rattle.rules.proofs.Laws.Compress.{live-fits}
-use Rattle.rules.proofs.Laws.FileLength.{count_runs, runs-live, frames-live, bytes-live}
+use Rattle.rules.proofs.Laws.FileLength.{runs-live, frames-live, bytes-live}
 
 -- tables of u64
 pub words : (st : State) → ((i : ℕ) → get_or st.elems i 0 < limit 8) → ((i : ℕ) → get_or st.shared i 0 < limit 8) → Words st

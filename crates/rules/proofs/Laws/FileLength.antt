@@ -1,10 +1,10 @@
 -- How long a run file is: 8 bytes, 28 for each run, and so many for each frame; and of the runs of a sound state, by the head's live numbers.
 use mathlib.Core.Path.{◌≡◌, refl, sym, ap, ◌∙◌}
 use mathlib.Core.List.{List, [], ◌∷◌, ◌++◌, map}
-use Prim.Native.Nat.{ℕ, zero, suc, ◌+◌, ◌*◌}
+use Prim.Native.Nat.{ℕ, suc, ◌+◌, ◌*◌}
 use native.Mathlib.Omega.{arith}
 use lib.ListN.{length, length-append, length-map}
-use Rattle.rules.specs.Notation.{sum, flat}
+use Rattle.rules.specs.Notation.{flat}
 use Rattle.rules.specs.Tables.{class_of, State}
 use Rattle.rules.specs.Drains.{ring}
 use Rattle.rules.specs.Compress.{lowest_slots, canonical_frames, canonical_classes}

@@ -4,9 +4,8 @@ use mathlib.Core.Path.{◌≡◌, refl, sym, ap, ◌∙◌, subst}
 use mathlib.Core.Logic.{◌≢◌, ◌⊎◌, inl, inr}
 use mathlib.Core.Bool.{Bool, true, false, true≢false}
 use mathlib.Core.List.{List, [], ◌∷◌, ◌++◌}
-use Prim.Native.Nat.{ℕ, zero, suc, ◌+◌, ◌*◌, ◌≤◌, ◌<◌}
+use Prim.Native.Nat.{ℕ, suc, ◌≤◌, ◌<◌}
 use native.Mathlib.Omega.{arith}
-use native.Mathlib.Decide.{dec_lt}
 use lib.ListN.{length, take, drop}
 use lib.Seq.{length-take-le}
 use Rattle.rules.specs.declared.Refusal.{Refusal}
@@ -20,7 +19,7 @@ use Rattle.rules.specs.Calls.{write_file, ruling, Ready, Is, AtDoor}
 use Rattle.rules.specs.Exact.{Some}
 use Rattle.rules.specs.TwoTables.{give◌when◌else◌, accepted}
 use Rattle.rules.specs.Bytes.{value, limit, Bytes}
-use Rattle.rules.specs.RunFile.{StoredRun, frame_length, file, Parsed, departs, holds, parse, frame_count, Fits}
+use Rattle.rules.specs.RunFile.{StoredRun, file, departs, holds, parse, frame_count, Fits}
 use Rattle.rules.specs.WriteFile
 use Rattle.rules.specs.WriteFile.{runs_in, bytes_in}
 use Rattle.rules.specs.ReadFile.{read_tables, is_in, read_file}

@@ -3,14 +3,14 @@ use Rattle.std.specs.Prelude.{if◌then◌else◌, ◌==◌}
 use Prim.Native.Nat.{ℕ, zero, suc, ◌+◌, ◌*◌, ◌-◌, ◌≤◌, ◌<◌}
 use mathlib.Core.Path.{◌≡◌, refl, sym, ap, ◌∙◌, subst}
 use mathlib.Core.Bool.{Bool, true, false, ◌&&◌}
-use mathlib.Core.List.{List, [], ◌∷◌, ◌++◌, map}
+use mathlib.Core.List.{List, [], ◌∷◌}
 use native.Mathlib.Omega.{arith}
 use native.Mathlib.Decide.{dec_lt}
 use native.Mathlib.Nat.{suc-mul, add_comm}
 use lib.ListN.{length, drop, length-drop}
 use lib.Seq.{drop-drop}
 use Rattle.rules.specs.Notation.{◌≤?◌}
-use Rattle.rules.specs.Bytes.{Got, unread, got, Reader, onward, ◌>>=◌, return, reject, times, value, number}
+use Rattle.rules.specs.Bytes.{Got, unread, got, Reader, onward, return, reject, times, value, number}
 use Rattle.rules.specs.RunFile.{StoredFrame, StoredRun, Entry, total, frame_length, body_length, stored_frame, body, entry, bodies}
 use Rattle.rules.proofs.Laws.Numbers.{number-some, number-none}
 use Rattle.rules.proofs.Laws.RoundTrip.{guarded}

@@ -1,6 +1,6 @@
 -- What removals share: slots freed and the generation raised. Capacities and lengths stay, the generation stays in range, and the columns of a freed frame are known.
 use mathlib.Core.Path.{◌≡◌, refl}
-use Prim.Native.Nat.{ℕ, ◌+◌, ◌-◌, ◌≤◌}
+use Prim.Native.Nat.{ℕ, ◌+◌, ◌≤◌}
 use native.Mathlib.Omega.{arith}
 use native.Mathlib.Decide.{ℕ_discrete}
 use Rattle.rules.specs.Tables.{last_generation, frame_width, header_width, State, with_pools, with_generation}

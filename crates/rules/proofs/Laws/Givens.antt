@@ -1,20 +1,19 @@
 -- Ticket 6: the sizes that a history has are those of the live frames.
 use Rattle.std.specs.Prelude.{if◌then◌else◌}
 use mathlib.Core.Path.{◌≡◌, refl, sym, ap, ◌∙◌, subst}
-use mathlib.Core.Logic.{◌≢◌, inl, inr}
+use mathlib.Core.Logic.{◌≢◌}
 use mathlib.Core.Bool.{Bool, true, false}
 use mathlib.Core.List.{List, [], ◌∷◌, map}
 use Prim.Native.Nat.{ℕ, zero, suc}
 use native.Mathlib.Omega.{arith}
 use native.Mathlib.Decide.{ℕ_discrete}
-use lib.Dec.{T}
 use Rattle.rules.specs.declared.Key.{Key}
-use Rattle.rules.specs.Notation.{along, sum, flat, keep}
+use Rattle.rules.specs.Notation.{along, sum, flat}
 use Rattle.rules.specs.Calls.{Is}
 use Rattle.rules.specs.History.{Given, same_key, holds, still_given, given_for, named_anew}
-use Rattle.rules.proofs.Laws.Lists.{All, In, all_map, all-at, all_of, all_image}
+use Rattle.rules.proofs.Laws.Lists.{All, In, all_map, all-at, all_of}
 use Rattle.rules.proofs.Laws.Sums.{keep_of}
-use Rattle.rules.proofs.Laws.Tests.{is_true, is_false, is_T, is-told}
+use Rattle.rules.proofs.Laws.Tests.{is_T, is-told}
 use Rattle.rules.proofs.Laws.Keys.{same-is, holds-is}
 use Rattle.rules.proofs.Laws.Working.{View}
 use Rattle.rules.proofs.Laws.Rep.{key_at, next_key, LiveKey, Rep, key_live, held}

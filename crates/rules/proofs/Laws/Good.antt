@@ -6,7 +6,6 @@ use Prim.Native.Nat.{ℕ, ◌+◌, ◌≤◌, ◌<◌}
 use native.Mathlib.Omega.{arith}
 use lib.ListN.{length}
 use Rattle.rules.specs.declared.Key.{Key}
-use Rattle.std.specs.Prelude.{Ok, Err}
 use Rattle.rules.specs.Notation.{steps, along, sum, flat}
 use Rattle.rules.specs.Tables
 use Rattle.rules.specs.Tables.{total_of, State, shared_side, size_at}
@@ -25,7 +24,7 @@ use Rattle.rules.proofs.Laws.Sides
 use Rattle.rules.proofs.Laws.Safe.{working, looked, found-live}
 use Rattle.rules.proofs.Laws.Keys.{in_of, in_to, once-to}
 use Rattle.rules.proofs.Laws.Fronted.{Same, same_length, fronted}
-use Rattle.rules.proofs.Laws.Rep.{next_key, LiveKey, Rep, rep_same, held}
+use Rattle.rules.proofs.Laws.Rep.{LiveKey, Rep, rep_same, held}
 use Rattle.rules.proofs.Laws.Classes.{Run, first_run, run-size, one_class, own-run}
 use Rattle.rules.proofs.Laws.Headers.{counts-sum}
 use Rattle.rules.proofs.Laws.Seals.{Seals}

@@ -8,7 +8,6 @@ use Prim.Native.Nat.{ℕ}
 use native.Mathlib.Omega.{arith}
 use lib.ListN.{length}
 use Rattle.rules.specs.declared.Key.{Key}
-use Rattle.std.specs.Prelude.{Ok, Err}
 use Rattle.rules.specs.declared.Refusal.TheVariants.{Shape}
 use Rattle.rules.specs.Notation.{◌<?◌}
 use Rattle.rules.specs.Tables.{sized, frame_width, class_of, State, size_at, is_sealed, blank}

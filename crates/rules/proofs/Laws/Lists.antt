@@ -2,7 +2,6 @@
 use mathlib.Core.Path.{◌≡◌, refl, sym, ap, ◌∙◌, subst₂}
 use mathlib.Core.Logic.{◌≢◌, ◌⊎◌, inl, inr}
 use mathlib.Core.List.{List, [], ◌∷◌, ◌++◌, map, append-nil}
-use Prim.Native.Nat.{◌+◌}
 use Rattle.rules.specs.Notation
 use Rattle.rules.specs.Notation.{flat}
 

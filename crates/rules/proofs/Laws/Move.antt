@@ -1,23 +1,19 @@
 -- THE MOVE is a renumbering in canonical order into the target's tables: sound, the same runs up to the renaming, and a history begun anew (Ticket 12).
-use mathlib.Core.Path.{◌≡◌, refl, sym, ap, ◌∙◌}
-use mathlib.Core.Logic.{◌≢◌}
+use mathlib.Core.Path.{◌≡◌, refl, ap}
 use mathlib.Core.Bool.{true}
-use mathlib.Core.List.{List, map}
+use mathlib.Core.List.{List}
 use Prim.Native.Nat.{ℕ, ◌+◌, ◌≤◌}
 use native.Mathlib.Omega.{arith}
 use lib.ListN.{length, length-map}
-use Rattle.rules.specs.declared.Key.{Key}
 use Rattle.rules.specs.Notation.{flat}
 use Rattle.rules.specs.Tables.{last_generation, generation_of, State}
 use Rattle.rules.specs.Sound.{Frame}
 use Rattle.rules.specs.Refusals.{shaped}
 use Rattle.rules.specs.Calls.{Ready}
-use Rattle.rules.specs.Compress.{canonical_frames, canonical_classes, place_of, packed_in, renumbered_in}
-use Rattle.rules.specs.Renaming.{SameRuns}
+use Rattle.rules.specs.Compress.{canonical_frames, canonical_classes, place_of, renumbered_in}
 use Rattle.rules.specs.Move.{moved}
 use Rattle.rules.specs.Moving.{MovedTo}
 use Rattle.rules.specs.History.{History, frames, ordered, renamed, moved_into}
-use Rattle.rules.proofs.Laws.Sides.{live_of}
 use Rattle.rules.proofs.Laws.Working.{view, Working}
 use Rattle.rules.proofs.Laws.Safe.{working}
 use Rattle.rules.proofs.Laws.Order.{frames_listed, classes_listed}

@@ -1,17 +1,17 @@
 -- Ticket 8: what a call of its premise does to the history's keys and to its generation.
-use Rattle.std.specs.Prelude.{if◌then◌else◌, ◌==◌}
+use Rattle.std.specs.Prelude.{◌==◌}
 use mathlib.Core.Path.{◌≡◌, refl, sym, ap, ◌∙◌, subst, subst⁻¹}
 use mathlib.Core.Logic.{◌≢◌, ◌⊎◌, inl, inr}
-use mathlib.Core.Bool.{Bool, true, false, true≢false, ◌&&◌, not}
-use mathlib.Core.List.{List, [], ◌∷◌, ◌++◌, map, foldr, append_assoc}
+use mathlib.Core.Bool.{Bool, true, false, ◌&&◌, not}
+use mathlib.Core.List.{List, [], ◌∷◌, ◌++◌, map, append_assoc}
 use Prim.Native.Nat.{ℕ, suc, ◌+◌, ◌≤◌, ◌<◌}
 use native.Mathlib.Omega.{arith}
-use lib.ListN.{length, drop, length-map}
+use lib.ListN.{length, drop}
 use Rattle.rules.specs.declared.Key.{Key}
 use Rattle.rules.specs.declared.Memory.{Memory}
 use Rattle.rules.specs.declared.Refusal.{Refusal}
 use Rattle.rules.specs.declared.Refusal.TheVariants.{SameClass, NoElement, NoShared, Short, Sealed, Nothing}
-use Rattle.rules.specs.Notation.{◌<?◌, steps, along, flat}
+use Rattle.rules.specs.Notation.{◌<?◌, steps, flat}
 use Rattle.rules.specs.Tables.{frame_width, last_generation, class_of, State, size_at, is_sealed}
 use Rattle.rules.specs.Refusals.{Ruling, refuse, Outcome, outcome, number_of}
 use Rattle.rules.specs.Reads
@@ -34,15 +34,13 @@ use Rattle.rules.specs.Renaming.{Compresses, canonical, kept}
 use Rattle.rules.specs.History.{History, frames, others_of, run_of, runs_but, going_on, inserted_runs, joined_runs, removed_runs, renamed, moved_down, with_runs, joining, putting_in, taking_out, renaming, noted}
 use Rattle.rules.specs.Sealing.{new_key}
 use Rattle.rules.specs.Stale.{Ends, answer, on_record, on_record_of_all, reset, reset_with, closing}
-use Rattle.rules.proofs.Laws.Lists.{In, in_right, in_parts, in_image, nodup_image, all-at, all_map, all_image, in_map}
+use Rattle.rules.proofs.Laws.Lists.{In, in_right, in_image, all-at}
 use Rattle.rules.proofs.Laws.Tests.{eq_is, is_false, is-not}
 use Rattle.rules.proofs.Laws.Steps.{steps-suc}
-use Rattle.rules.proofs.Laws.Pools.{live_in}
-use Rattle.rules.proofs.Laws.Count.{exact}
-use Rattle.rules.proofs.Laws.Working.{View, view, Working}
+use Rattle.rules.proofs.Laws.Working.{View, view}
 use Rattle.rules.proofs.Laws.Safe.{working}
 use Rattle.rules.proofs.Laws.Fronted.{in_over, same_in, same_back}
-use Rattle.rules.proofs.Laws.Rep.{key_at, LiveKey, Rep, slots_apart, held}
+use Rattle.rules.proofs.Laws.Rep.{LiveKey, held}
 use Rattle.rules.proofs.Laws.Headers.{live-runs, live-frames}
 use Rattle.rules.proofs.Laws.Good.{Good, live_of, key_fronted, size-from}
 use Rattle.rules.proofs.Laws.Rulings.{by_test, by_key, by-keys}

@@ -20,8 +20,8 @@ use Rattle.rules.specs.Calls.{clear, Ready, Is, step}
 use Rattle.rules.specs.Compress.{renumbered_in}
 use Rattle.rules.specs.TwoTables.{TwoRuling, refuse, accept, TwoOutcome, two_outcome}
 use Rattle.rules.specs.Move.{moved, is_none, transfer, transfer_step, AtMove}
-use Rattle.rules.specs.Moving.{MoveGives, MovedFrom, Transfers, Moving}
-use Rattle.rules.specs.History.{History, frames, accepted, nothing, moved_into, noted_to, noted_from}
+use Rattle.rules.specs.Moving.{MoveGives, Transfers, Moving}
+use Rattle.rules.specs.History.{History, frames, accepted, moved_into, noted_to, noted_from}
 use Rattle.rules.proofs.Laws.Tests.{eq_is, le_is, is_true, is_false}
 use Rattle.rules.proofs.Laws.Empty.{clear_keeps}
 use Rattle.rules.proofs.Laws.Working.{view}

@@ -1,18 +1,14 @@
 -- Numbers: written and read back, read and written back.
-use Rattle.std.specs.Prelude.{if◌then◌else◌}
 use Prim.Native.Nat.{ℕ, zero, suc, ◌+◌, ◌*◌, ◌/◌, ◌%◌, ◌≤◌, ◌<◌}
 use mathlib.Core.Path.{◌≡◌, refl, sym, ap, ◌∙◌, subst}
-use mathlib.Core.Bool.{Bool, true, false}
 use mathlib.Core.List.{List, [], ◌∷◌, ◌++◌}
 use native.Mathlib.Omega.{arith}
 use native.Mathlib.Nat.{div-add-mod}
 use native.Mathlib.Decide.{dec_lt}
-use borrow.Author.Tests.{le-leb, lt-leb, leb-true}
-use lib.Dec.{leb}
+use borrow.Author.Tests.{le-leb, lt-leb}
 use lib.ListN.{length, take, drop, length-append}
 use lib.Seq.{drop_at}
-use Rattle.rules.specs.Notation.{◌≤?◌}
-use Rattle.rules.specs.Bytes.{Got, unread, got, Reader, onward, little, value, limit, Bytes, number}
+use Rattle.rules.specs.Bytes.{unread, got, little, value, limit, Bytes, number}
 
 pub length-little : (w n : ℕ) → length (little w n) ≡ w
 unfolding little

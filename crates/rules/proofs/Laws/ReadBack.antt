@@ -1,27 +1,27 @@
 -- Reading what was written (Ticket 11): the tables of a sound state's runs are those that canonical compression gives, but that no header is marked.
 use Rattle.std.specs.Prelude.{if◌then◌else◌}
 use mathlib.Core.Path.{◌≡◌, refl, sym, ap, ◌∙◌, subst}
-use mathlib.Core.Logic.{◌≢◌, inl, inr}
+use mathlib.Core.Logic.{◌≢◌}
 use mathlib.Core.Bool.{Bool, true, false}
 use mathlib.Core.List.{List, [], ◌∷◌, ◌++◌, map, map-append, append-nil, append_assoc}
 use Prim.Native.Nat.{ℕ, zero, suc, ◌+◌, ◌*◌, ◌-◌, ◌≤◌, ◌<◌}
 use native.Mathlib.Omega.{arith}
-use lib.ListN.{length, get_or, length-append, length-map, get_or-append}
+use lib.ListN.{length, get_or, length-append, length-map}
 use lib.Seq.{get_or-append-add}
 use Rattle.rules.specs.Notation.{steps, along, sum, flat}
-use Rattle.rules.specs.Tables.{frame_width, header_width, header_at, cell, payload_of, class_of, previous_of, next_of, bytes_of, count_of, value_of, mark_of, total_of, State}
+use Rattle.rules.specs.Tables.{frame_width, header_width, header_at, cell, payload_of, class_of, bytes_of, count_of, value_of, mark_of, total_of, State}
 use Rattle.rules.specs.Runs.{frame, header}
 use Rattle.rules.specs.Drains.{ring}
 use Rattle.rules.specs.Compress.{is_lowest, lowest_slots, canonical_frames, canonical_classes, place_of, padded, moved_frame, moved_header, renumbered_in}
-use Rattle.rules.specs.RunFile.{StoredFrame, StoredRun, total, frame_count}
+use Rattle.rules.specs.RunFile.{StoredRun, total, frame_count}
 use Rattle.rules.specs.WriteFile.{frame_in, run_in, runs_in}
-use Rattle.rules.specs.ReadFile.{before_in, after_in, read_frame, read_frames, read_header, read_runs, read_tables}
-use Rattle.rules.proofs.Laws.Lists.{All, In, all-at}
+use Rattle.rules.specs.ReadFile.{read_frame, read_frames, read_header, read_runs, read_tables}
+use Rattle.rules.proofs.Laws.Lists.{All}
 use Rattle.rules.proofs.Laws.Steps.{steps-suc, length-along}
 use Rattle.rules.proofs.Laws.Places.{place_at, upto, cell-padded}
 use Rattle.rules.proofs.Laws.Working.{view, Working, total-ring, next-class}
 use Rattle.rules.proofs.Laws.Soundness.{ring-at}
-use Rattle.rules.proofs.Laws.Order.{Looked, free, first, later, looked, Mine, round, lowest_to, frames_to, classes_to, lowest_more, frames_more, frames-to, classes-to, classes_more, classes_listed, flat_append}
+use Rattle.rules.proofs.Laws.Order.{Looked, free, first, later, looked, lowest_to, frames_to, classes_to, lowest_more, frames_more, frames-to, classes-to, classes_more, classes_listed, flat_append}
 use Rattle.rules.proofs.Laws.Blocks.{lowest-live, prefix, block_next, block_prev, block_live, ring-length}
 use Rattle.rules.proofs.Laws.Compress.{header_column}
 use Rattle.rules.proofs.Laws.FileLength.{count_runs, runs-live, frames-live}

@@ -1,20 +1,17 @@
 -- The tables that the reader builds (Ticket 11), cell by cell: where the frames of each run stand, and what stands there.
-use mathlib.Core.Path.{◌≡◌, refl, sym, ap, ◌∙◌, subst}
-use mathlib.Core.List.{List, [], ◌∷◌, ◌++◌, map}
+use mathlib.Core.Path.{◌≡◌, refl, sym, ap, ◌∙◌}
+use mathlib.Core.List.{List, [], ◌∷◌, map}
 use Prim.Native.Nat.{ℕ, zero, suc, ◌+◌, ◌*◌, ◌-◌, ◌≤◌, ◌<◌}
 use native.Mathlib.Omega.{arith}
 use native.Mathlib.Nat.{mul-le-mul_right}
 use lib.ListN.{length, get_or, length-append, get_or-append}
 use lib.Seq.{get_or-append-add}
-use Rattle.rules.specs.Notation.{sum, flat}
+use Rattle.rules.specs.Notation.{flat}
 use Rattle.rules.specs.Tables.{frame_width, header_width, cell}
-use Rattle.rules.specs.Compress.{padded}
-use Rattle.rules.specs.RunFile.{StoredFrame, StoredRun, total, frame_count}
-use Rattle.rules.specs.ReadFile.{before_in, after_in, read_frame, read_frames, read_header, read_runs, read_tables}
-use Rattle.rules.proofs.Laws.Columns.{cell-none}
-use Rattle.rules.proofs.Laws.Blocks.{ahead, ahead-next, ahead-all, ahead_le, Block, block_of}
+use Rattle.rules.specs.RunFile.{StoredFrame, StoredRun, frame_count}
+use Rattle.rules.specs.ReadFile.{read_frame, read_frames, read_header, read_runs, read_tables}
+use Rattle.rules.proofs.Laws.Blocks.{ahead, ahead-next, ahead_le, Block, block_of}
 use Rattle.rules.proofs.Laws.Places.{padded-long, padded-at, padded-past, rows_long, rows_at}
-use Rattle.rules.proofs.Laws.Working.{View, view}
 
 -- ---- where frames stand
 abbrev no_frame : StoredFrame

@@ -1,6 +1,6 @@
 -- What the reader's rule decides (Ticket 11), case by case; and what an accepted read is.
 use Rattle.std.specs.Prelude.{if◌then◌else◌}
-use mathlib.Core.Path.{◌≡◌, refl, sym, ap, ◌∙◌, subst}
+use mathlib.Core.Path.{◌≡◌, refl, ap}
 use mathlib.Core.Bool.{Bool, true, false}
 use mathlib.Core.List.{List, []}
 use Prim.Native.Nat.{ℕ, suc, ◌≤◌, ◌<◌}
@@ -13,9 +13,9 @@ use Rattle.rules.specs.Refusals.{Ruling, refuse, answer, outcome, shaped}
 use Rattle.rules.specs.Calls.{Is}
 use Rattle.rules.specs.Bytes.{value, Bytes}
 use Rattle.rules.specs.RunFile.{StoredRun, file, Parsed, departs, holds, parse, frame_count, Fits}
-use Rattle.rules.specs.ReadFile.{read_tables, into_room, is_in, read_file, old_reader, read_step, runs_of}
+use Rattle.rules.specs.ReadFile.{read_tables, into_room, is_in, read_file, runs_of}
 use Rattle.rules.proofs.Laws.Tests.{le_is}
-use Rattle.rules.proofs.Laws.RoundTrip.{Whole, file-parse}
+use Rattle.rules.proofs.Laws.RoundTrip.{file-parse}
 
 -- up to the version, and up to the runs
 pub record Known (known : List ℕ) (st : State) (b : List ℕ) : Type 0 where

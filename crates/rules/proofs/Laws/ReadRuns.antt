@@ -10,13 +10,13 @@ use Rattle.rules.specs.Notation.{along}
 use Rattle.rules.specs.Tables.{class_of, value_of, State, size_at}
 use Rattle.rules.specs.Drains.{ring}
 use Rattle.rules.specs.Compress.{is_lowest, lowest_slots}
-use Rattle.rules.specs.RunFile.{StoredFrame, StoredRun, frame_count}
+use Rattle.rules.specs.RunFile.{StoredRun, frame_count}
 use Rattle.rules.specs.WriteFile.{frame_in, run_in, runs_in}
 use Rattle.rules.specs.ReadFile.{read_tables}
-use Rattle.rules.proofs.Laws.Lists.{All, In, all-at}
+use Rattle.rules.proofs.Laws.Lists.{In, all-at}
 use Rattle.rules.proofs.Laws.Steps.{walk-along, length-along}
 use Rattle.rules.proofs.Laws.Sums.{along_of}
-use Rattle.rules.proofs.Laws.Working.{View, view, Working}
+use Rattle.rules.proofs.Laws.Working.{view, Working}
 use Rattle.rules.proofs.Laws.Order.{Looked, free, first, later, looked, round, lowest_to, lowest_more}
 use Rattle.rules.proofs.Laws.Blocks.{ahead, ahead-all}
 use Rattle.rules.proofs.Laws.Histories.Copied.{map_same}

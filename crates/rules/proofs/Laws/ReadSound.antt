@@ -2,7 +2,7 @@
 use mathlib.Core.Path.{◌≡◌, refl, sym, ap, ◌∙◌, subst}
 use mathlib.Core.Logic.{◌≢◌}
 use mathlib.Core.List.{List, [], ◌∷◌, map}
-use Prim.Native.Nat.{ℕ, zero, suc, ◌+◌, ◌*◌, ◌-◌, ◌≤◌, ◌<◌}
+use Prim.Native.Nat.{ℕ, zero, suc, ◌+◌, ◌-◌, ◌≤◌, ◌<◌}
 use native.Mathlib.Omega.{arith}
 use native.Mathlib.Decide.{ℕ_discrete, dec_lt}
 use lib.ListN.{length, get_or}
@@ -11,17 +11,17 @@ use Rattle.rules.specs.Tables.{most_slots, last_generation, most_bytes, frame_wi
 use Rattle.rules.specs.Calls.{Ready}
 use Rattle.rules.specs.RunFile.{StoredFrame, StoredRun, total, frame_count, FrameFits, RunFits}
 use Rattle.rules.specs.ReadFile.{before_in, after_in, read_tables}
-use Rattle.rules.proofs.Laws.Lists.{In, NoDup, Walk, all_of}
+use Rattle.rules.proofs.Laws.Lists.{In, Walk, all_of}
 use Rattle.rules.proofs.Laws.Columns.{cell-none}
 use Rattle.rules.proofs.Laws.Steps.{length-along}
 use Rattle.rules.proofs.Laws.Sums.{along_in, along_of, along_once}
 use Rattle.rules.proofs.Laws.Pools.{if_eq, if_ne}
 use Rattle.rules.proofs.Laws.Count.{lives_all, all-used}
 use Rattle.rules.proofs.Laws.Totals.{whole, whole-none}
-use Rattle.rules.proofs.Laws.Working.{View, view, Frame, Ring, Working, ring-over}
+use Rattle.rules.proofs.Laws.Working.{view, Frame, Ring, Working, ring-over}
 use Rattle.rules.proofs.Laws.Soundness.{Shaped}
 use Rattle.rules.proofs.Laws.Safe.{ready}
-use Rattle.rules.proofs.Laws.ReadCells.{run_no, frame_no, many, past, slot_at, slot-within, Stands, stands, stands_once, frame-cell, frame-none, header-cell, header-none, read-elems, read-shared}
+use Rattle.rules.proofs.Laws.ReadCells.{run_no, frame_no, many, past, slot_at, stands, frame-cell, frame-none, header-cell, header-none, read-elems, read-shared}
 
 -- the slots of a list of things, one after another
 pub map-along : {A B : Type 0} (d : A) (f : ℕ → B) (g : A → B) (xs : List A) (s : ℕ) → ((i : ℕ) → i < length xs → f (s + i) ≡ g (get_or xs i d)) → map f (along suc (length xs) s) ≡ map g xs

@@ -1,20 +1,19 @@
 -- The whole file: what is written reads back, what is read writes back, and a cut file departs from the layout.
 use Rattle.std.specs.Prelude.{if◌then◌else◌, ◌==◌}
-use Prim.Native.Nat.{ℕ, zero, suc, ◌+◌, ◌*◌, ◌-◌, ◌%◌, ◌/◌, ◌≤◌, ◌<◌}
+use Prim.Native.Nat.{ℕ, zero, suc, ◌+◌, ◌*◌, ◌-◌, ◌/◌, ◌≤◌, ◌<◌}
 use mathlib.Core.Path.{◌≡◌, refl, sym, ap, ◌∙◌, subst}
 use mathlib.Core.Bool.{Bool, true, false, ◌&&◌}
-use mathlib.Core.List.{List, [], ◌∷◌, ◌++◌, map, append_assoc, append-nil}
+use mathlib.Core.List.{List, [], ◌∷◌, ◌++◌, append_assoc, append-nil}
 use native.Mathlib.Omega.{arith}
-use native.Mathlib.Nat.{div-add-mod, mod-lt}
 use borrow.Author.Tests.{le-leb, leb-true, eq-eqb, eqb-true}
 use lib.ListN.{length, take, drop, length-append, length-drop, take-append-drop}
 use lib.Seq.{drop_at, take-nil}
-use Rattle.rules.specs.Notation.{◌≤?◌, sum, flat, All}
-use Rattle.rules.specs.Bytes.{Got, unread, got, Reader, onward, ◌>>=◌, return, reject, times, little, value, limit, Bytes, number}
-use Rattle.rules.specs.RunFile.{StoredFrame, StoredRun, Entry, total, frame_bytes, body_bytes, body_length, entries, entry_bytes, first_body, after_version, file, stored_frame, body, entry, bodies, runs, Parsed, departs, holds, whole, parse, FrameFits, RunFits, EntryFits, Fits}
+use Rattle.rules.specs.Notation.{◌≤?◌, All}
+use Rattle.rules.specs.Bytes.{Got, unread, got, Reader, onward, return, reject, little, value, limit, Bytes}
+use Rattle.rules.specs.RunFile.{StoredFrame, StoredRun, Entry, total, frame_bytes, body_bytes, body_length, entries, entry_bytes, first_body, after_version, file, stored_frame, body, entry, bodies, runs, departs, holds, whole, parse, FrameFits, RunFits, EntryFits, Fits}
 use Rattle.rules.proofs.Laws.Numbers.{Is, number-back, length-little, little-value, bytes_drop}
 use Rattle.rules.proofs.Laws.FileLength.{length-entries}
-use Rattle.rules.proofs.Laws.Codec.{Codec, numbers, via, ended, Many, joined, many, frames_read, entries_read, three}
+use Rattle.rules.proofs.Laws.Codec.{Codec, numbers, via, ended, joined, many, frames_read, entries_read, three}
 
 four : (a b c d rest : List ℕ) → (a ++ b ++ c ++ d) ++ rest ≡ a ++ (b ++ (c ++ (d ++ rest)))
 four a b c d rest = simp append_assoc

@@ -1,9 +1,9 @@
 -- THE LAW said once over both compressions (Ticket 3): where slots are renumbered, runs, rings, counts and payloads are the same up to the renaming.
 use Rattle.std.specs.Prelude.{if◌then◌else◌}
-use mathlib.Core.Path.{◌≡◌, refl, sym, ap, ◌∙◌}
+use mathlib.Core.Path.{◌≡◌, sym, ap, ◌∙◌}
 use mathlib.Core.Logic.{◌≢◌}
 use mathlib.Core.Bool.{Bool, true, false}
-use mathlib.Core.List.{List, map}
+use mathlib.Core.List.{List}
 use Prim.Native.Nat.{ℕ}
 use native.Mathlib.Omega.{arith}
 use Rattle.rules.specs.declared.Refusal.TheVariants.{Short}
@@ -11,10 +11,9 @@ use Rattle.rules.specs.Notation.{along}
 use Rattle.rules.specs.Tables.{frame_width, State, elem_side, shared_side}
 use Rattle.rules.specs.Refusals.{refuse, accept, outcome}
 use Rattle.rules.specs.Sound.{Frame, Header}
-use Rattle.rules.specs.Drains.{ring, is_short}
+use Rattle.rules.specs.Drains.{is_short}
 use Rattle.rules.specs.Compress
 use Rattle.rules.specs.Compress.{canonical_frames, canonical_classes, place_of, renumbered_in, generation_after, live_slots, pair_width}
-use Rattle.rules.specs.Calls.{Ready}
 use Rattle.rules.specs.Renaming.{SameRuns, canonical, kept, Renaming}
 use Rattle.rules.proofs.Laws.Sides.{live_of, live_to}
 use Rattle.rules.proofs.Laws.Pools.{live_in}

@@ -27,7 +27,6 @@ use Rattle.rules.specs.ReadFile.{read_file, old_reader, read_step, runs_of}
 use Rattle.rules.specs.Demand
 use Rattle.rules.specs.Demand.{header_of}
 use Rattle.rules.specs.Renaming.{Compresses, canonical, kept}
-use Rattle.rules.specs.Sealing
 use Rattle.rules.specs.Sealing.{keys_written, new_key, Since, begin, fresh, read, call, compression, Sealed, Sealing}
 use Rattle.rules.proofs.Laws.Lists.{All, In, all_map, all_of, all-at, all_image, in_map, in_image}
 use Rattle.rules.proofs.Laws.Columns.{upd_same}
@@ -36,7 +35,7 @@ use Rattle.rules.proofs.Laws.Pools.{if_ne}
 use Rattle.rules.proofs.Laws.Keys.{in_of, in_to}
 use Rattle.rules.proofs.Laws.Working.{View, view, Working}
 use Rattle.rules.proofs.Laws.Safe.{working}
-use Rattle.rules.proofs.Laws.Rep.{key_at, LiveKey, Rep, held}
+use Rattle.rules.proofs.Laws.Rep.{LiveKey, Rep, held}
 use Rattle.rules.proofs.Laws.Classes.{Run, one_class, own-run}
 use Rattle.rules.proofs.Laws.Order.{Listed, frames_listed, classes_listed}
 use Rattle.rules.proofs.Laws.Compress.{by_place, own_renumbers}

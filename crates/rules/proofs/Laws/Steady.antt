@@ -8,7 +8,7 @@ use Prim.Native.Nat.{ℕ, zero, suc, ◌≤◌}
 use native.Mathlib.Omega.{arith}
 use native.Mathlib.Decide.{ℕ_discrete}
 use Rattle.rules.specs.Tables.{State, elem_side, shared_side, size_at, is_sealed}
-use Rattle.rules.specs.Slots.{slot_of, taken}
+use Rattle.rules.specs.Slots.{slot_of}
 use Rattle.rules.specs.Runs.{begun, inserted, joined, removed}
 use Rattle.rules.specs.Drains.{drained}
 use Rattle.rules.specs.Calls.{Ready}

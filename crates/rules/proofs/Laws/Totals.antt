@@ -1,22 +1,22 @@
 -- Ticket 6: the columns of sizes and totals. A total is the sum of the sizes of the slots of its class; once for every call that puts in, takes out, joins or moves.
 use Rattle.std.specs.Prelude.{if◌then◌else◌}
-use mathlib.Core.Path.{◌≡◌, refl, sym, ap, ◌∙◌, subst}
+use mathlib.Core.Path.{◌≡◌, refl, sym, ◌∙◌, subst}
 use mathlib.Core.Logic.{◌≢◌, inl, inr}
 use mathlib.Core.Bool.{Bool, true, false}
 use mathlib.Core.List.{List, [], ◌∷◌, map}
-use Prim.Native.Nat.{ℕ, zero, suc, ◌+◌, ◌-◌, ◌*◌, ◌≤◌, ◌<◌}
+use Prim.Native.Nat.{ℕ, suc, ◌+◌, ◌-◌, ◌*◌, ◌≤◌, ◌<◌}
 use native.Mathlib.Nat.{mul-le-mul_right}
 use native.Mathlib.Omega.{arith}
 use native.Mathlib.Decide.{ℕ_discrete}
 use lib.ListN.{length}
-use Rattle.rules.specs.Notation.{◌≤?◌, sum, along, up_to}
+use Rattle.rules.specs.Notation.{◌≤?◌, sum, up_to}
 use Rattle.rules.specs.Tables.{most_slots, most_bytes, total_bound, sized}
 use Rattle.rules.specs.Calls.{Is}
 use Rattle.rules.proofs.Laws.Tests.{le_is}
 use Rattle.rules.proofs.Laws.Lists.{All, In, NoDup, all-at, all_of}
 use Rattle.rules.proofs.Laws.Columns.{choose, upd, upd_same, upd_other}
 use Rattle.rules.proofs.Laws.Steps.{length-along}
-use Rattle.rules.proofs.Laws.Sums.{sum-within, sum_same, up_to-in, up_to-of, up_to-once}
+use Rattle.rules.proofs.Laws.Sums.{sum-within, sum_same, up_to-in, up_to-once}
 
 -- ---- sums, member by member
 pub sum_ext : {A : Type 0} (f g : A → ℕ) (xs : List A) → All (λ x. f x ≡ g x) xs → sum (map f xs) ≡ sum (map g xs)

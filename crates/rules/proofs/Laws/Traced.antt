@@ -8,8 +8,8 @@ use lib.ListN.{length}
 use Rattle.rules.specs.Notation.{steps}
 use Rattle.rules.specs.Tables.{frame_width, blank, State, with_undo, forgetting, elem_side, class_of, next_of, mark_of, total_of, size_at}
 use Rattle.rules.specs.Sound.{bytes_along, Frame}
-use Rattle.rules.specs.Slots.{taken, freed}
-use Rattle.rules.specs.Runs.{exchanged, joined, remembered, union}
+use Rattle.rules.specs.Slots.{freed}
+use Rattle.rules.specs.Runs.{exchanged, joined, remembered}
 use Rattle.rules.specs.Undo.{taken_back}
 use Rattle.rules.specs.Calls.{Ready}
 use Rattle.rules.proofs.Laws.Columns.{upd_same, upd_other}

@@ -9,7 +9,7 @@ use lib.ListN.{length}
 use Rattle.rules.specs.declared.Memory.{Memory}
 use Rattle.rules.specs.declared.Pool.{Pool}
 use Rattle.rules.specs.Notation.{steps, along, sum}
-use Rattle.rules.specs.Tables.{frame_width, blank, State, Side, shared_side, field_of, class_of, next_of, bytes_of}
+use Rattle.rules.specs.Tables.{frame_width, blank, State, Side, shared_side, field_of, class_of, next_of}
 use Rattle.rules.specs.Sound.{bytes_along}
 use Rattle.rules.specs.Slots.{slot_of, taken, freed}
 use Rattle.rules.specs.Runs.{rewritten, exchanged}

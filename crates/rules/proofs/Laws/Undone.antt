@@ -1,6 +1,6 @@
 -- What undo leaves to the frames: none comes in or goes, none comes into a sealed run, and the same union can be made again.
 use mathlib.Core.Path.{◌≡◌, refl, sym, ap, ◌∙◌}
-use mathlib.Core.Logic.{◌≢◌, ◌↔◌, inl, inr}
+use mathlib.Core.Logic.{◌≢◌, inl, inr}
 use mathlib.Core.List.{List, ◌∷◌, ◌++◌}
 use Prim.Native.Nat.{ℕ}
 use native.Mathlib.Omega.{arith}
@@ -10,7 +10,7 @@ use Rattle.rules.specs.Tables.{State}
 use Rattle.rules.specs.Undo.{taken_back, Remembers}
 use Rattle.rules.specs.Calls.{Ready}
 use Rattle.rules.proofs.Laws.Lists.{In, in_dec, out_of}
-use Rattle.rules.proofs.Laws.Columns.{upd, upd_same, upd_other}
+use Rattle.rules.proofs.Laws.Columns.{upd_same, upd_other}
 use Rattle.rules.proofs.Laws.Working.{View, view, Working}
 use Rattle.rules.proofs.Laws.Soundness.{ring-at}
 use Rattle.rules.proofs.Laws.Safe.{working}

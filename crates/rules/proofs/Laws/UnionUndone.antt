@@ -2,7 +2,7 @@
 use Rattle.std.specs.Prelude.{if◌then◌else◌, ◌==◌}
 use mathlib.Core.Path.{◌≡◌, refl, sym, ap, ◌∙◌}
 use mathlib.Core.Logic.{◌≢◌}
-use mathlib.Core.Bool.{Bool, false, ◌&&◌, ◌||◌, not}
+use mathlib.Core.Bool.{◌&&◌, ◌||◌, not}
 use mathlib.Core.List.{List, []}
 use Prim.Native.Nat.{ℕ}
 use native.Mathlib.Omega.{arith}
@@ -25,7 +25,7 @@ use Rattle.rules.specs.Keeping.{Joins, Then, Accepted, joins}
 use Rattle.rules.specs.Calls.{union, undo, ruling, step, Ready}
 use Rattle.rules.proofs.Laws.Sides.{live_of}
 use Rattle.rules.proofs.Laws.Tests.{eq_is, is_false}
-use Rattle.rules.proofs.Laws.Working.{View, view}
+use Rattle.rules.proofs.Laws.Working.{View}
 use Rattle.rules.proofs.Laws.Cut.{split_v}
 use Rattle.rules.proofs.Laws.Traced.{Traced, undo-union, back_view}
 use Rattle.rules.proofs.Laws.Undone.{traced_memory}

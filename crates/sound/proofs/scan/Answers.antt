@@ -1,12 +1,11 @@
 use Rattle.std.specs.Prelude.{◌==◌}
 use Rattle.rules.proofs.Laws.Tests.{eq_is}
 use Rattle.sound.proofs.Turns.{verdict_by, turn_passed, turn_first, wrong_met, wrong_rings, scanned}
-use Rattle.sound.proofs.Scans.{bounded, numbered}
+use Rattle.sound.proofs.Scans.{bounded}
 use Rattle.rules.specs.Tables.{state_of}
 use native.Mathlib.Omega.{arith}
-use mathlib.Core.Path.{◌≡◌, sym}
+use mathlib.Core.Path.{◌≡◌}
 use Rattle.sound.proofs.scan.Goals as goal
-use Rattle.sound.proofs.scan.Goals.{in-Free, in-First}
 
 pub overflow_add-met : goal.overflow_add-met
 overflow_add-met c =
@@ -14,14 +13,15 @@ overflow_add-met c =
     let l = c.loop-i in
     omega (arith, bounded _ _ _ _ _ (turn_first st l.i l.met l.rings l.seen _ c.look.result l.invariant c.look.ensures c.in-First.count c.in-First.is), c.requires.0.few)
 
+pub loop-i-preserved-in-Free : goal.loop-i-preserved-in-Free
+loop-i-preserved-in-Free c =
+    let l = c.loop-i in
+    turn_passed (state_of c.args.head c.args.e.now c.args.s.now) l.i l.met l.rings l.seen _ c.look.result l.invariant c.look.ensures c.in-Free.is
+
 pub loop-i-preserved : goal.loop-i-preserved
 loop-i-preserved c =
-    let st = state_of c.args.head c.args.e.now c.args.s.now in
     let l = c.loop-i in
-    elim c.match-look.branch [
-      | in-Free w ↦ numbered (sym w.met-is) (sym w.rings-is) (turn_passed st l.i l.met l.rings l.seen _ c.look.result l.invariant c.look.ensures w.in-Free.is)
-      | in-First w ↦ numbered (sym w.met-is) (sym w.rings-is) (turn_first st l.i l.met l.rings l.seen _ c.look.result l.invariant c.look.ensures w.in-First.count w.in-First.is)
-    ]
+    turn_first (state_of c.args.head c.args.e.now c.args.s.now) l.i l.met l.rings l.seen _ c.look.result l.invariant c.look.ensures c.in-First.count c.in-First.is
 
 pub returns-then-met-head : goal.returns-then-met-head
 returns-then-met-head c =

@@ -17,17 +17,14 @@ returns-then-get-eq0 c = begins-free c.requires (c.args.i + 1) (omega arith) c.g
 pub get-class-requires : goal.get-class-requires
 get-class-requires c = let s = safe _ c.requires.ready in record { some = omega arith; inside = omega (arith, c.requires.some); field = omega arith }
 
-pub overflow_sub-class : goal.overflow_sub-class
-overflow_sub-class c = class-some c.requires (c.args.i + 1) (omega arith) c.get.result c.get.ensures c.if-get-eq0.false c.get-class.result c.get-class.ensures
+pub overflow_sub-place : goal.overflow_sub-place
+overflow_sub-place c = class-some c.requires (c.args.i + 1) (omega arith) c.get.result c.get.ensures c.if-get-eq0.false c.get-class.result c.get-class.ensures
 
 pub is_marked-requires : goal.is_marked-requires
 is_marked-requires c = class-room c.requires (c.args.i + 1) (omega arith) c.get.result c.get.ensures c.if-get-eq0.false c.get-class.result c.get-class.ensures
 
 pub returns-then-is_marked : goal.returns-then-is_marked
 returns-then-is_marked c = begins-seen c.requires (c.args.i + 1) (omega arith) c.get.result c.get.ensures c.if-get-eq0.false c.get-class.result c.get-class.ensures (c.is_marked.ensures ∙ c.if-is_marked.true)
-
-pub overflow_sub-class-2 : goal.overflow_sub-class-2
-overflow_sub-class-2 c = class-some c.requires (c.args.i + 1) (omega arith) c.get.result c.get.ensures c.if-get-eq0.false c.get-class.result c.get-class.ensures
 
 pub mark-requires : goal.mark-requires
 mark-requires c = class-room c.requires (c.args.i + 1) (omega arith) c.get.result c.get.ensures c.if-get-eq0.false c.get-class.result c.get-class.ensures

@@ -1,7 +1,7 @@
 -- A copy begins a history anew, with the frames of its source put in under their own keys (Ticket 10).
-use mathlib.Core.Path.{◌≡◌, refl, sym, ap, ◌∙◌, subst}
+use mathlib.Core.Path.{◌≡◌, refl, ap, ◌∙◌, subst}
 use mathlib.Core.List.{List, [], ◌∷◌, map}
-use Prim.Native.Nat.{ℕ, ◌+◌, ◌≤◌}
+use Prim.Native.Nat.{ℕ, ◌≤◌}
 use native.Mathlib.Nat.{add-zero}
 use Rattle.rules.specs.declared.Key.{Key}
 use Rattle.rules.specs.Tables.{most_slots, State}

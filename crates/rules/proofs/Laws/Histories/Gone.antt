@@ -10,7 +10,7 @@ use Rattle.rules.specs.Notation.{flat}
 use Rattle.rules.specs.Tables.{State}
 use Rattle.rules.specs.Slots.{raised}
 use Rattle.rules.specs.Calls.{remove_shared}
-use Rattle.rules.specs.History.{History, frames, others_of, run_of, runs_but, accepted}
+use Rattle.rules.specs.History.{History, others_of, run_of, runs_but, accepted}
 use Rattle.rules.proofs.Laws.Lists.{out-by, All, In, Out, all_map, all-at, all_of, all_parts, in_parts, nodup_parts, across, cycles_frame, out-not}
 use Rattle.rules.proofs.Laws.Working.{View, view, Working, Frame, Ring, next-class}
 use Rattle.rules.proofs.Laws.Soundness.{ring-at}

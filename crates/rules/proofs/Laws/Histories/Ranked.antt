@@ -4,7 +4,7 @@ use mathlib.Core.Path.{◌≡◌, refl, sym, ap, ◌∙◌, subst}
 use mathlib.Core.Logic.{◌≢◌}
 use mathlib.Core.Bool.{Bool, true, false}
 use mathlib.Core.List.{List, [], ◌∷◌, map}
-use Prim.Native.Nat.{ℕ, suc, ◌≤◌}
+use Prim.Native.Nat.{ℕ, suc}
 use lib.ListN.{length}
 use Rattle.rules.specs.declared.Key.{Key}
 use Rattle.rules.specs.Notation.{◌≤?◌, flat, keep}
@@ -12,7 +12,7 @@ use Rattle.rules.specs.Tables.{State, elem_side, shared_side}
 use Rattle.rules.specs.Calls.{Ready, compress_with}
 use Rattle.rules.specs.Compress.{place_of, live_slots, renumbered, generation_after}
 use Rattle.rules.specs.History.{History, moved_down, by_slot, accepted}
-use Rattle.rules.proofs.Laws.Lists.{In, all-at, in_map, in_image, nodup_image}
+use Rattle.rules.proofs.Laws.Lists.{all-at, in_map, in_image, nodup_image}
 use Rattle.rules.proofs.Laws.Working.{view, Working}
 use Rattle.rules.proofs.Laws.Safe.{working}
 use Rattle.rules.proofs.Laws.Keys.{key_path}

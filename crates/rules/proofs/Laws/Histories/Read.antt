@@ -1,7 +1,7 @@
 -- A read that is accepted is a fresh call that puts the frames of the file in (Ticket 11).
 use Rattle.std.specs.Prelude.{if◌then◌else◌}
 use mathlib.Core.Path.{◌≡◌, refl, sym, ap, ◌∙◌, subst}
-use mathlib.Core.Logic.{◌≢◌, inl, inr}
+use mathlib.Core.Logic.{◌≢◌}
 use mathlib.Core.Bool.{Bool, true, false}
 use mathlib.Core.List.{List, [], ◌∷◌, ◌++◌, map, map-append}
 use Prim.Native.Nat.{ℕ, zero, suc, ◌+◌, ◌-◌, ◌≤◌, ◌<◌}
@@ -9,11 +9,11 @@ use native.Mathlib.Omega.{arith}
 use lib.ListN.{length, get_or, length-map}
 use Rattle.rules.specs.declared.Key.{Key}
 use Rattle.rules.specs.Notation.{along, flat}
-use Rattle.rules.specs.Tables.{most_slots, State}
+use Rattle.rules.specs.Tables.{most_slots}
 use Rattle.rules.specs.Calls.{Is}
 use Rattle.rules.specs.RunFile.{StoredFrame, StoredRun, frame_count}
 use Rattle.rules.specs.ReadFile.{read_tables}
-use Rattle.rules.specs.History.{History, Given, same_key, given_for, frames, keys_past, runs_past, given_past, read_into}
+use Rattle.rules.specs.History.{History, same_key, given_for, frames, keys_past, runs_past, given_past, read_into}
 use Rattle.rules.proofs.Laws.Lists.{All, In, Walk, Cycle, all_of, all_image, all_map, in_map, nodup_image}
 use Rattle.rules.proofs.Laws.Steps.{length-along}
 use Rattle.rules.proofs.Laws.Sums.{along_in, along_of, along_once}
@@ -23,7 +23,7 @@ use Rattle.rules.proofs.Laws.Rep.{key_at, next_key, LiveKey, Rep}
 use Rattle.rules.proofs.Laws.Good.{Good}
 use Rattle.rules.proofs.Laws.Blocks.{ahead, flat-at}
 use Rattle.rules.proofs.Laws.Renumber.{walk_carried}
-use Rattle.rules.proofs.Laws.ReadCells.{frames_of, length_frames_of, run-frames, run_no, frame_no, many, past, slot_at, count-flat, slot-within, stands, header-cell}
+use Rattle.rules.proofs.Laws.ReadCells.{frames_of, length_frames_of, run-frames, frame_no, many, past, slot_at, count-flat, slot-within, stands, header-cell}
 use Rattle.rules.proofs.Laws.ReadSound.{Readable, gen_at, class-at, bytes-at, live_inside, by-frame, run-ring, read_works, read-ready}
 
 -- ---- the keys of a read

@@ -1,10 +1,9 @@
 -- Sorting runs by lowest slot (Rules 14) writes the history in another way; where no two have one lowest slot, the lowest slots rise.
 use Rattle.std.specs.Prelude.{if◌then◌else◌}
-use mathlib.Core.Path.{◌≡◌}
 use mathlib.Core.Logic.{◌≢◌}
 use mathlib.Core.Bool.{Bool, true, false}
 use mathlib.Core.List.{List, [], ◌∷◌, map, foldr}
-use Prim.Native.Nat.{ℕ, suc, ◌≤◌, ◌<◌}
+use Prim.Native.Nat.{ℕ, suc, ◌<◌}
 use native.Mathlib.Omega.{arith}
 use Rattle.rules.specs.declared.Key.{Key}
 use Rattle.rules.specs.Notation.{◌<?◌}
