@@ -1,5 +1,8 @@
-use Rattle.host.proofs.Kit.{moved_to}
 use Rattle.host.proofs.two.doorsedge_transfer_canonical.Goals as goal
 
-pub returns : goal.returns
-returns c = moved_to _ _ _ _ _ _ _ _ _ _ _ _ _ _ _ _ _ _ _ _ _ c.unpack.ensures c.unpack-leaving.ensures c.transfer_canonical-step.ensures c.over_only-number.ensures c.store.ensures c.store-2.ensures
+pub returns-in-Ok : goal.returns-in-Ok
+returns-in-Ok c = record {
+  outcome = _;
+  door = rw (c.in-Ok.is, c.unpack-to.ensures, c.unpack-from.ensures) at c.transfer_canonical.ensures;
+  same = rw (c.pack.ensures, c.pack-in-Ok.ensures, c.numbers.ensures);
+}
