@@ -64,6 +64,7 @@ impl Program {
         ensures { Fed block.now self.old self.new }
     {
         let mut rest = block;
+        // A while, since a for over the pieces would not say which is the last, the part that no newline ends.
         while let Some((part, after)) = lines::split_line(rest) {
             self.held = lines::hold(&mut self.line, self.held, part);
             self.answer();

@@ -13,7 +13,7 @@ pub fn put_text(out: &mut [u8], at: usize, text: &[u8]) -> usize
     end
 }
 
-// Script: decimal without leading zeros.
+// Script: decimal without leading zeros. A recursion, since the first digit is the last one known.
 pub fn put_decimal(out: &mut [u8], at: usize, n: u64) -> usize
     requires { at + 20 ≤ length out.old }
     ensures put { Put out.old at (decimal n) out.new result }
