@@ -1,6 +1,5 @@
 -- The program's steps, from a line to a block to the whole input: each keeps what Script says of all that was read.
-use Prim.Native.Nat.{ℕ, ◌*◌, ◌≤◌, ◌<◌}
-use lib.ListN.{length}
+use Prim.Native.Nat.{ℕ}
 use mathlib.Core.Path.{◌≡◌}
 use mathlib.Core.List.{List, [], ◌∷◌, ◌++◌}
 use native.Mathlib.Omega.{arith}
@@ -8,12 +7,10 @@ use Rattle.rules.specs.Script.{newline, pieces}
 use Rattle.lines.specs.Stream.{Keeps, fresh_state}
 use Rattle.lines.proofs.Follows.{follows_block, follows-room, follows_part, follows-line, follows-start}
 use Rattle.blocks.specs.declared.Program.{Program}
-use Rattle.blocks.specs.Progress.{Working, Answered, Doing, Fed, Reading, state}
+use Rattle.blocks.specs.Progress.{Working, Answered, Doing, Fed, Reading, Lent}
 use Rattle.stdio.specs.Handed.{Handed}
 use Rattle.rules.proofs.Laws.Empty.{empty_keeps}
-use Rattle.rules.specs.Drains.{key_width}
-use Rattle.rules.specs.Script.{capacity, line_most}
-use Rattle.lines.specs.Obeys.{reply_most}
+use Rattle.rules.specs.Script.{capacity}
 
 -- ---- a block
 
@@ -28,7 +25,7 @@ module _ (block : List ℕ) (p : Program) where
 
   -- a line that ends in it is held and obeyed
   pub feeding_next : {rest part after line' : List ℕ} {held' : ℕ} {q r : Program} → Feeding rest q → pieces newline rest ≡ part ∷ pieces newline after
-      → Keeps q.line q.held part line' held' → Answered (record q { line = line'; held = held' }) r → Feeding after r
+      → Keeps q.line.now q.held part line' held' → Answered (record q { line = record q.line { now = line' }; held = held' }) r → Feeding after r
   feeding_next {r = r} f e k a =
       let w = f.working in
       record {
@@ -48,13 +45,13 @@ module _ (block : List ℕ) (p : Program) where
             record {
               gone = z.handed;
               handed = z.counted;
-              follows = rw a.none (follows-line (follows-room g.follows z.same) e k (omega (arith, k.long, w.line)) a.obeys a.within r.line);
+              follows = rw a.none (follows-line (follows-room g.follows z.same) e k (omega (arith, k.long, w.line)) a.obeys a.within r.line.now);
             };
       }
 
   -- and the part of one that is left is held
   pub feeding_end : {rest line' : List ℕ} {held' : ℕ} {q : Program} → Feeding rest q → pieces newline rest ≡ rest ∷ []
-      → Keeps q.line q.held rest line' held' → Fed block p (record q { line = line'; held = held' })
+      → Keeps q.line.now q.held rest line' held' → Fed block p (record q { line = record q.line { now = line' }; held = held' })
   feeding_end f e k =
       record {
         working =
@@ -75,19 +72,19 @@ pub reading_next : {block : List ℕ} {p r : Program} → Reading p → Fed bloc
 reading_next {block} d f = record { working = f.working; input = d.input ++ block; doing = f.does d.input d.doing }
 
 -- fresh tables are ready, and the buffers are long enough
-pub reading_start : (p : Program) → state p ≡ fresh_state → Handed p.sent [] → length p.keys ≡ capacity * key_width → reply_most ≤ length p.out → line_most < length p.line
+pub reading_start : (p : Program) → Lent p.elems.now p.shared.now p.keys.now p.out.now p.line.now → p.head ≡ fresh_state.head → Handed p.sent []
     → p.fill ≡ 0 → p.held ≡ 0 → Reading p
-reading_start p s h k o l f z =
+reading_start p l e h f z =
     record {
       working =
           record {
-            ready = rw s (empty_keeps capacity capacity 1 (omega arith, omega arith) (omega arith, omega arith) (omega arith, omega arith));
-            keys = k;
-            reply = o;
-            line = l;
+            ready = rw (e, l.zero) (empty_keeps capacity capacity 1 (omega arith, omega arith) (omega arith, omega arith) (omega arith, omega arith));
+            keys = l.width;
+            reply = l.reply;
+            line = l.most;
             fill = omega (arith, f);
             held = omega (arith, z);
           };
       input = [];
-      doing = record { gone = []; handed = h; follows = rw (s, f, z) (follows-start p.out p.line) };
+      doing = record { gone = []; handed = h; follows = rw (e, l.zero, f, z) (follows-start p.out.now p.line.now) };
     }

@@ -13,14 +13,14 @@ const REPLY_MOST: usize = 21533;
 
 // Between lines: the tables, what is lent to list a ring, the output and how much of it is held, the same of a line, and what went to the writer.
 #[derive(Drop)]
-pub struct Program {
+pub struct Program<'a> {
     pub head: Head,
-    pub elems: [u64; 3072],
-    pub shared: [u64; 2560],
-    pub keys: [u64; 1024],
-    pub out: [u8; 65536],
+    pub elems: &'a mut [u64],
+    pub shared: &'a mut [u64],
+    pub keys: &'a mut [u64],
+    pub out: &'a mut [u8],
     pub fill: usize,
-    pub line: [u8; 128],
+    pub line: &'a mut [u8],
     pub held: usize,
     pub sent: Sent,
 }
@@ -37,23 +37,28 @@ fn make_room(out: &[u8], fill: usize, sent: &mut Sent) -> usize
     fill
 }
 
-impl Program {
+impl<'a> Program<'a> {
     // The line that is held, obeyed.
     pub fn answer(&mut self)
         requires { Working self.old }
         ensures { Answered self.old self.new }
     {
-        let at = make_room(&self.out, self.fill, &mut self.sent);
-        let obeyed = lines::obey_bytes(
-            self.head,
-            &mut self.elems,
-            &mut self.shared,
-            &mut self.keys,
-            &mut self.out,
-            at,
-            &self.line[..self.held],
-        );
+        let head = self.head;
+        let held = self.held;
+        // Taken out and put back, since the check covers no loan of two slices behind `self` at once.
+        let elems = std::mem::take(&mut self.elems);
+        let shared = std::mem::take(&mut self.shared);
+        let keys = std::mem::take(&mut self.keys);
+        let out = std::mem::take(&mut self.out);
+        let line = std::mem::take(&mut self.line);
+        let at = make_room(out, self.fill, &mut self.sent);
+        let obeyed = lines::obey_bytes(head, elems, shared, keys, out, at, &line[..held]);
         self.head = obeyed.head;
+        self.elems = elems;
+        self.shared = shared;
+        self.keys = keys;
+        self.out = out;
+        self.line = line;
         self.fill = obeyed.next;
         self.held = 0;
     }
@@ -66,10 +71,12 @@ impl Program {
         let mut rest = block;
         // A while, since a for over the pieces would not say which is the last, the part that no newline ends.
         while let Some((part, after)) = lines::split_line(rest) {
-            self.held = lines::hold(&mut self.line, self.held, part);
+            let held = self.held;
+            self.held = lines::hold(self.line, held, part);
             self.answer();
             rest = after;
         }
-        self.held = lines::hold(&mut self.line, self.held, rest);
+        let held = self.held;
+        self.held = lines::hold(self.line, held, rest);
     }
 }

@@ -4,7 +4,7 @@
 ghost use Rattle.std.specs.Prelude.{ℕ, List, []};
 ghost use Rattle.rules.specs.Script.{output};
 ghost use Rattle.stdio.specs.Handed.{Handed};
-ghost use Rattle.blocks.specs.Progress.{Working, Doing, Reading, Ran};
+ghost use Rattle.blocks.specs.Progress.{Lent, Working, Doing, Reading, Ran};
 
 use blocks::Program;
 use rules::{BLANK, Head, Pool};
@@ -15,7 +15,15 @@ use stdio::Sent;
 const CAPACITY: u64 = 512;
 
 // Rules 2: the program over zero tables.
-fn fresh(to: Stdout) -> Program
+fn fresh<'a>(
+    to: Stdout,
+    elems: &'a mut [u64],
+    shared: &'a mut [u64],
+    keys: &'a mut [u64],
+    out: &'a mut [u8],
+    line: &'a mut [u8],
+) -> Program<'a>
+    requires { Lent elems.old shared.old keys.old out.old line.old }
     ensures { Reading result }
 {
     let pool = Pool::empty(CAPACITY);
@@ -26,34 +34,44 @@ fn fresh(to: Stdout) -> Program
             generation: 1,
             undo: BLANK,
         },
-        elems: [0; 3072],
-        shared: [0; 2560],
-        keys: [0; 1024],
-        out: [0; 65536],
+        elems,
+        shared,
+        keys,
+        out,
         fill: 0,
-        line: [0; 128],
+        line,
         held: 0,
         sent: Sent::nothing(to),
     }
 }
 
 // The end of the input: the last line may lack its newline. What then stands in `out` is handed to the writer.
-fn finish(mut program: Program) -> Sent
-    requires { Working program }
-    ensures { (input : List ℕ) → Doing input [] program → Handed result (output input) }
+fn finish(program: &mut Program)
+    requires { Working program.old }
+    ensures { (input : List ℕ) → Doing input [] program.old → Handed program.new.sent (output input) }
 {
     if program.held > 0 {
         program.answer();
     }
-    program.sent.send(&program.out[..program.fill]);
-    program.sent
+    let fill = program.fill;
+    let out = std::mem::take(&mut program.out);
+    program.sent.send(&out[..fill]);
 }
 
 // A proved loop has to end, and nothing says that an input does: the turns are counted, up to a number that no run reaches.
-fn run(mut from: Stdin, to: Stdout) -> Sent
+fn run(
+    mut from: Stdin,
+    to: Stdout,
+    elems: &mut [u64],
+    shared: &mut [u64],
+    keys: &mut [u64],
+    out: &mut [u8],
+    line: &mut [u8],
+) -> Sent
+    requires { Lent elems.old shared.old keys.old out.old line.old }
     ensures { Ran result }
 {
-    let mut program = fresh(to);
+    let mut program = fresh(to, elems, shared, keys, out, line);
     let mut block = [0u8; 65536];
     for _ in 0..u64::MAX {
         let received = stdio::receive(&mut from, &mut block);
@@ -62,9 +80,23 @@ fn run(mut from: Stdin, to: Stdout) -> Sent
         }
         program.feed(&block[..received]);
     }
-    finish(program)
+    finish(&mut program);
+    program.sent
 }
 
 fn main(rt: HostRuntime) {
-    run(rt.stdin(), rt.stdout());
+    let mut elems = [0u64; 3072];
+    let mut shared = [0u64; 2560];
+    let mut keys = [0u64; 1024];
+    let mut out = [0u8; 65536];
+    let mut line = [0u8; 128];
+    run(
+        rt.stdin(),
+        rt.stdout(),
+        &mut elems,
+        &mut shared,
+        &mut keys,
+        &mut out,
+        &mut line,
+    );
 }

@@ -13,8 +13,8 @@ returns c =
           let a = w.answer.ensures in
           let z = a.stays d.gone d.handed in
           let h = follows-last {gone = z.handed} (follows-room d.follows z.same) w.if-program-gt0.true c.requires.line a.obeys a.within in
-          subst (λ (xs : List ℕ). Handed c.send.new.self xs) h ((rw w.program-is at c.send.ensures) z.handed z.counted)
+          subst (λ (xs : List ℕ). Handed c.send.new.self xs) h ((rw (c.take-out.ensures.value, w.program-is) at c.send.ensures) z.handed z.counted)
       | else-program-gt0 w ↦
           let h = follows-end d.follows (omega (arith, w.if-program-gt0.false)) (omega (arith, c.requires.line)) in
-          subst (λ (xs : List ℕ). Handed c.send.new.self xs) h ((rw w.program-is at c.send.ensures) d.gone d.handed)
+          subst (λ (xs : List ℕ). Handed c.send.new.self xs) h ((rw (c.take-out.ensures.value, w.program-is) at c.send.ensures) d.gone d.handed)
     ]
