@@ -67,14 +67,14 @@ fn run(
     keys: &mut [u64],
     out: &mut [u8],
     line: &mut [u8],
+    block: &mut [u8],
 ) -> Sent
     requires { Lent elems.old shared.old keys.old out.old line.old }
     ensures { Ran result }
 {
     let mut program = fresh(to, elems, shared, keys, out, line);
-    let mut block = [0u8; 65536];
     for _ in 0..u64::MAX {
-        let received = stdio::receive(&mut from, &mut block);
+        let received = stdio::receive(&mut from, block);
         if received == 0 {
             break;
         }
@@ -90,6 +90,7 @@ fn main(rt: HostRuntime) {
     let mut keys = [0u64; 1024];
     let mut out = [0u8; 65536];
     let mut line = [0u8; 128];
+    let mut block = [0u8; 65536];
     run(
         rt.stdin(),
         rt.stdout(),
@@ -98,5 +99,6 @@ fn main(rt: HostRuntime) {
         &mut keys,
         &mut out,
         &mut line,
+        &mut block,
     );
 }
