@@ -1,13 +1,13 @@
 -- The program's steps, from a line to a block to the whole input: each keeps what Script says of all that was read.
 use Prim.Native.Nat.{ℕ}
-use mathlib.Core.Path.{◌≡◌}
+use mathlib.Core.Path.{◌≡◌, refl}
 use mathlib.Core.List.{List, [], ◌∷◌, ◌++◌}
 use native.Mathlib.Omega.{arith}
 use Rattle.rules.specs.Script.{newline, pieces}
 use Rattle.lines.specs.Stream.{Keeps, fresh_state}
 use Rattle.lines.proofs.Follows.{follows_block, follows-room, follows_part, follows-line, follows-start}
 use Rattle.blocks.specs.declared.Program.{Program}
-use Rattle.blocks.specs.Progress.{Working, Answered, Doing, Fed, Reading, Lent}
+use Rattle.blocks.specs.Progress.{Working, SameLengths, Answered, Doing, Fed, Reading, Lent}
 use Rattle.stdio.specs.Handed.{Handed}
 use Rattle.rules.proofs.Laws.Empty.{empty_keeps}
 use Rattle.rules.specs.Script.{capacity}
@@ -18,10 +18,15 @@ module _ (block : List ℕ) (p : Program) where
   -- of the block, `rest` is left
   pub record Feeding (rest : List ℕ) (q : Program) : Type 0 where
     pub working : Working q
+    pub long : SameLengths p q
     pub does : (past : List ℕ) → Doing past [] p → Doing (past ++ block) rest q
 
-  pub feeding_start : Working p → Feeding block p
-  feeding_start w = record { working = w; does = λ past d. record { gone = d.gone; handed = d.handed; follows = follows_block d.follows } }
+  -- reading begins at the block's first byte
+  pub feeding_start : {rest : List ℕ} → rest ≡ block → Working p → Feeding rest p
+  feeding_start e w =
+      rw e (
+      record { working = w; long = record { elems = refl; shared = refl; keys = refl; out = refl; line = refl }; does = λ past d. record { gone = d.gone; handed = d.handed; follows = follows_block d.follows } }
+      )
 
   -- a line that ends in it is held and obeyed
   pub feeding_next : {rest part after line' : List ℕ} {held' : ℕ} {q r : Program} → Feeding rest q → pieces newline rest ≡ part ∷ pieces newline after
@@ -37,6 +42,14 @@ module _ (block : List ℕ) (p : Program) where
               line = omega (arith, a.long.line, k.long, w.line);
               fill = omega (arith, a.long.out, a.within);
               held = omega (arith, a.none);
+            };
+        long =
+            record {
+              elems = omega (arith, a.long.elems, f.long.elems);
+              shared = omega (arith, a.long.shared, f.long.shared);
+              keys = omega (arith, a.long.keys, f.long.keys);
+              out = omega (arith, a.long.out, f.long.out);
+              line = omega (arith, a.long.line, k.long, f.long.line);
             };
         does =
             λ past d.
@@ -62,6 +75,14 @@ module _ (block : List ℕ) (p : Program) where
               line = omega (arith, k.long, f.working.line);
               fill = f.working.fill;
               held = omega (arith, k.long, k.within);
+            };
+        long =
+            record {
+              elems = f.long.elems;
+              shared = f.long.shared;
+              keys = f.long.keys;
+              out = f.long.out;
+              line = omega (arith, k.long, f.long.line);
             };
         does = λ past d. let g = f.does past d in record { gone = g.gone; handed = g.handed; follows = follows_part g.follows e k };
       }

@@ -40,8 +40,10 @@ pub record Lent (elems shared keys out line : List ℕ) : Type 0 where
   pub reply : reply_most ≤ length out
   pub most : line_most < length line
 
--- the buffers keep their lengths
+-- what is lent keeps its lengths
 pub record SameLengths (p r : Program) : Type 0 where
+  pub elems : length r.elems.now ≡ length p.elems.now
+  pub shared : length r.shared.now ≡ length p.shared.now
   pub keys : length r.keys.now ≡ length p.keys.now
   pub out : length r.out.now ≡ length p.out.now
   pub line : length r.line.now ≡ length p.line.now
@@ -53,6 +55,7 @@ pub record Answered (p r : Program) : Type 0 where
   pub obeys : ObeysLine (line_reply (state p) (take p.held p.line.now)) (state r) p.out.now at r.out.now r.fill
   pub within : r.fill ≤ length p.out.now
   pub none : r.held ≡ 0
+  pub kept : r.line.now ≡ p.line.now
   pub long : SameLengths p r
 
 -- Of an input, `left` is still to be read: what was read of it was obeyed and printed as Script says, and what has gone out was handed to the writer
@@ -64,6 +67,7 @@ pub record Doing (input left : List ℕ) (p : Program) : Type 0 where
 -- Of any input that a block goes on: what was read, printed and handed over after the block is still what Script says
 pub record Fed (block : List ℕ) (p r : Program) : Type 0 where
   pub working : Working r
+  pub long : SameLengths p r
   pub does : (past : List ℕ) → Doing past [] p → Doing (past ++ block) [] r
 
 -- of some input, all was read, and what was printed and handed over is what Script says

@@ -43,16 +43,15 @@ impl<'a> Program<'a> {
         requires { Working self.old }
         ensures { Answered self.old self.new }
     {
-        let head = self.head;
-        let held = self.held;
         // Taken out and put back, since the check covers no loan of two slices behind `self` at once.
+        let out = std::mem::take(&mut self.out);
+        let at = make_room(out, self.fill, &mut self.sent);
+        let held = self.held;
         let elems = std::mem::take(&mut self.elems);
         let shared = std::mem::take(&mut self.shared);
         let keys = std::mem::take(&mut self.keys);
-        let out = std::mem::take(&mut self.out);
         let line = std::mem::take(&mut self.line);
-        let at = make_room(out, self.fill, &mut self.sent);
-        let obeyed = lines::obey_bytes(head, elems, shared, keys, out, at, &line[..held]);
+        let obeyed = lines::obey_bytes(self.head, elems, shared, keys, out, at, &line[..held]);
         self.head = obeyed.head;
         self.elems = elems;
         self.shared = shared;

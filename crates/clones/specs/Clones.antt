@@ -9,6 +9,10 @@ use Rattle.rules.proofs.Laws.Pools.{Pooled}
 abbrev pub side_of : Pool → (table : List ℕ) → Layout → Side
 side_of pool table layout = record { pool = pool; table = table; width = layout.width; used = layout.used; link = layout.link }
 
+-- the same with another field that links the free slots
+abbrev pub linked : Layout → (link : ℕ) → Layout
+linked layout link = record { width = layout.width; used = layout.used; link = link }
+
 pub record Scannable (t : Side) : Type 0 where
   pub inside : t.pool.extent * t.width ≤ length t.table
   pub reads : t.used < t.width
@@ -17,6 +21,12 @@ pub record Scannable (t : Side) : Type 0 where
 pub record Rowed (w : ℕ) (t : List ℕ) (b : ℕ) (from : List ℕ) (s : ℕ) (t' : List ℕ) : Type 0 where
   pub long : length t' ≡ length t
   pub there : (f : ℕ) → f < w → cell w t' f b ≡ cell w from f s
+  pub still : (f u : ℕ) → f < w → u ≢ b → cell w t' f u ≡ cell w t f u
+
+-- the fields of the slot `b` are 0
+pub record Cleared (w : ℕ) (t : List ℕ) (b : ℕ) (t' : List ℕ) : Type 0 where
+  pub long : length t' ≡ length t
+  pub none : (f : ℕ) → f < w → cell w t' f b ≡ 0
   pub still : (f u : ℕ) → f < w → u ≢ b → cell w t' f u ≡ cell w t f u
 
 -- one slot, with `root` the lowest free slot above it

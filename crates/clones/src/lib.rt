@@ -2,14 +2,14 @@
 // Ported from clone_from_with of surject_arena.rs (triple_arena 0.15.1, NOTICE).
 #![tactic(auto)]
 
-ghost use Rattle.std.specs.Prelude.{◌≡◌, true, ◌≤◌, ◌<◌};
+ghost use Rattle.std.specs.Prelude.{ℕ, ◌≡◌, true, ◌≤◌, ◌<◌};
 ghost use Rattle.rules.specs.Tables.{most_slots, state_of};
 ghost use Rattle.rules.specs.Refusals.{shaped};
 ghost use Rattle.rules.specs.Calls.{Ready};
 ghost use Rattle.rules.specs.TwoTables.{after_target};
 ghost use Rattle.rules.specs.Copy.{last_live, copied_table, copied_pool, clone_step};
 ghost use Rattle.slots.specs.Asked.{Within};
-ghost use Rattle.clones.specs.Clones.{side_of, Scannable, Rowed, CloneOne, Clonable};
+ghost use Rattle.clones.specs.Clones.{side_of, linked, Scannable, Rowed, Cleared, CloneOne, Clonable};
 
 use copies::zero;
 use rules::{BLANK, COUNT, FRAME, GENERATION, HEADER, Head, NEXT, NEXT_FREE, Pool, Refusal, Step};
@@ -35,12 +35,13 @@ const HEADERS: Layout = Layout {
     link: NEXT_FREE,
 };
 
-// The last live slot; 0 if there is none.
+// The last live slot, whichever field links the free ones; 0 if there is none.
 pub fn last(pool: Pool, t: &[u64], layout: Layout) -> u64
     requires { Scannable (side_of pool t.now layout) }
-    ensures { result ≡ last_live (side_of pool t.now layout) }
+    ensures { (link : ℕ) → result ≡ last_live (side_of pool t.now (linked layout link)) }
 {
-    for slot in (1..=pool.extent).rev() {
+    for below in (0..pool.extent).rev() {
+        let slot = below + 1;
         let live = get(t, layout.width, layout.used, slot);
         if live != 0 {
             return slot;
@@ -60,6 +61,16 @@ pub fn copy_row(to: &mut [u64], place: u64, from: &[u64], slot: u64, width: u64)
     }
 }
 
+// All fields of a slot become 0. Kept as a loop: where the width is known it is a few writes, and a fill would call memset for each slot.
+fn clear_row(to: &mut [u64], place: u64, width: u64)
+    requires { Within width to.old place }
+    ensures { Cleared width to.old place to.new }
+{
+    for field in 0..width {
+        put(to, width, place, field, 0);
+    }
+}
+
 // One slot: a live one is copied; a free one names the free one above it, and is answered.
 fn copy_slot(to: &mut [u64], from: &[u64], layout: Layout, slot: u64, root: u64) -> u64
     requires { Within layout.width to.old slot × Within layout.width from.now slot × (layout.used < layout.width) × (layout.link < layout.width) × (slot ≤ most_slots) × (layout.width ≤ most_slots) }
@@ -67,7 +78,7 @@ fn copy_slot(to: &mut [u64], from: &[u64], layout: Layout, slot: u64, root: u64)
 {
     let live = get(from, layout.width, layout.used, slot);
     if live == 0 {
-        zero(to, (slot - 1) * layout.width, slot * layout.width);
+        clear_row(to, slot, layout.width);
         put(to, layout.width, slot, layout.link, root);
         return slot;
     }
@@ -88,8 +99,8 @@ pub fn copy_table(
     ensures { (result ≡ copied_pool capacity (side_of pool from.now layout)) × (to.new ≡ copied_table capacity (side_of pool from.now layout)) }
 {
     let mut root: u64 = 0;
-    for slot in (1..=last).rev() {
-        root = copy_slot(to, from, layout, slot, root);
+    for below in (0..last).rev() {
+        root = copy_slot(to, from, layout, below + 1, root);
     }
     zero(to, last * layout.width, capacity * layout.width);
     Pool {

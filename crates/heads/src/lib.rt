@@ -84,7 +84,7 @@ impl Lent for Head {
     }
 }
 
-// Refusals, below the table: an accepted call's next head is stored and its numbers are told; a refused call stores nothing.
+// Refusals, below the table: an accepted call's numbers are told, then its next head is stored; a refused call stores nothing.
 pub fn finish<H: Lent, T: Numbers<N>, const N: usize>(
     step: Result<Step<T>, Refusal>,
     head: &mut H,
@@ -95,8 +95,8 @@ pub fn finish<H: Lent, T: Numbers<N>, const N: usize>(
 {
     match step {
         Ok(next) => {
-            *head = H::lend(next.head);
             *out = next.answer.numbers(next.over);
+            *head = H::lend(next.head);
             0
         }
         Err(refusal) => result_of(refusal),

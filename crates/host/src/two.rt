@@ -39,9 +39,9 @@ pub extern "C" fn doorsedge_transfer_canonical(
     let (to, from) = (unpack(*head), unpack(*source));
     match door::transfer_canonical(to, elems, shared, generation, from, frames, headers) {
         Ok(moved) => {
+            *out = ().numbers(moved.over);
             *head = pack(moved.head);
             *source = pack(moved.source);
-            *out = ().numbers(moved.over);
             0
         }
         Err(refusal) => result_of(refusal),

@@ -10,7 +10,7 @@ use borrow.Rule.Slice.PartMut.{put_mid}
 use Rattle.std.specs.Int.{from_le_bytes, to_le_bytes, bytes_low_first, w64}
 use Rattle.std.proofs.lemmas.List.Edits.{sets-eq}
 use Rattle.rules.specs.Bytes.{little, value, limit}
-use Rattle.rules.proofs.Laws.Numbers.{limit-some}
+use Rattle.rules.proofs.Laws.Numbers.{limit-some, length-little}
 
 -- a number by its highest byte
 value-last : (w : ℕ) (b : List ℕ) → value (suc w) b ≡ value w b + get_or b w 0 * 256 ^ w
@@ -71,3 +71,45 @@ put_mid-sets at w out x l h = rw (sets-eq x out at (omega (arith, l, h)), l, dro
 pub sets_append : (l : List ℕ) (at : ℕ) (a b : List ℕ) → sets (sets l at a) (at + length a) b ≡ sets l at (a ++ b)
 sets_append l at [] b = let z : at + 0 ≡ at = omega arith in rw z
 sets_append l at (x ∷ a) b = let z : at + suc (length a) ≡ suc at + length a = omega arith in rw z (sets_append (set l at x) (suc at) a b)
+
+-- a number in two parts
+value_eight : (l : List ℕ) → value 8 l ≡ value 4 l + 4294967296 * value 4 (drop 4 l)
+unfolding value
+value_eight [] = refl
+value_eight (x ∷ []) = omega arith
+value_eight (x ∷ y ∷ []) = omega arith
+value_eight (x ∷ y ∷ z ∷ []) = omega arith
+value_eight (x ∷ y ∷ z ∷ w ∷ l) = omega arith
+
+pub value_at8 : (b : List ℕ) (at : ℕ) → value 8 (drop at b) ≡ value 4 (drop at b) + 4294967296 * value 4 (drop (at + 4) b)
+value_at8 b at = value_eight (drop at b) ∙ rw (drop-drop 4 at b)
+
+pub little_eight : (n : ℕ) → little 8 n ≡ little 4 n ++ little 4 (n / 256 / 256 / 256 / 256)
+unfolding little
+little_eight n = refl
+
+pub sets_eight : (l l₁ l₂ : List ℕ) (at n : ℕ) → l₁ ≡ sets l at (little 4 n) → l₂ ≡ sets l₁ (at + 4) (little 4 (n / 256 / 256 / 256 / 256)) → l₂ ≡ sets l at (little 8 n)
+sets_eight l l₁ l₂ at n p q =
+    let a = little 4 n in
+    let b = little 4 (n / 256 / 256 / 256 / 256) in
+    let z : sets (sets l at a) (at + 4) b ≡ sets (sets l at a) (at + length a) b = ap (λ (k : ℕ). sets (sets l at a) (at + k) b) (sym (length-little 4 n)) in
+    q ∙ ap (λ (x : List ℕ). sets x (at + 4) b) p ∙ z ∙ sets_append l at a b ∙ ap (sets l at) (sym (little_eight n))
+
+value_four : (l : List ℕ) → value 4 l ≡ value 1 l + value 1 (drop 1 l) * 256 + value 1 (drop 2 l) * 65536 + value 1 (drop 3 l) * 16777216
+unfolding value
+value_four [] = refl
+value_four (x ∷ []) = omega arith
+value_four (x ∷ y ∷ []) = omega arith
+value_four (x ∷ y ∷ z ∷ []) = omega arith
+value_four (x ∷ y ∷ z ∷ w ∷ l) = omega arith
+
+pub value_at4 : (b : List ℕ) (at : ℕ) → value 4 (drop at b) ≡ value 1 (drop at b) + value 1 (drop (at + 1) b) * 256 + value 1 (drop (at + 2) b) * 65536 + value 1 (drop (at + 3) b) * 16777216
+value_at4 b at = value_four (drop at b) ∙ rw (drop-drop 1 at b, drop-drop 2 at b, drop-drop 3 at b)
+
+pub sets_bytes : (l l₁ l₂ l₃ l₄ : List ℕ) (at n : ℕ) → l₁ ≡ sets l at (little 1 n) → l₂ ≡ sets l₁ (at + 1) (little 1 (n / 256)) → l₃ ≡ sets l₂ (at + 2) (little 1 (n / 256 / 256)) → l₄ ≡ sets l₃ (at + 3) (little 1 (n / 256 / 256 / 256)) → l₄ ≡ sets l at (little 4 n)
+unfolding little
+sets_bytes l l₁ l₂ l₃ l₄ at n p q r s =
+    let one : at + 1 ≡ suc at = omega arith in
+    let two : at + 2 ≡ suc (suc at) = omega arith in
+    let three : at + 3 ≡ suc (suc (suc at)) = omega arith in
+    rw (s, r, q, p, one, two, three)

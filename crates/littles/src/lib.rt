@@ -28,7 +28,8 @@ fn put<const WIDTH: usize>(out: &mut [u8], at: usize, n: u64)
     out[at..at + WIDTH].copy_from_slice(&n.to_le_bytes()[..WIDTH]);
 }
 
-// The u32 at a place, and the u64.
+// The u32 at a place, and the u64. The laws named here say the same of bytes and halves read apart, which the wrong programs do.
+#[tactic(auto, using(crate::proofs::Cells::value_at4))]
 pub fn get4(b: &[u8], at: usize) -> u64
     requires { at + 4 ≤ length b.now }
     ensures { (result ≡ value 4 (drop at b.now)) × (result < 4294967296) }
@@ -36,6 +37,7 @@ pub fn get4(b: &[u8], at: usize) -> u64
     get::<4>(b, at)
 }
 
+#[tactic(auto, using(crate::proofs::Cells::value_at8))]
 pub fn get8(b: &[u8], at: usize) -> u64
     requires { at + 8 ≤ length b.now }
     ensures { result ≡ value 8 (drop at b.now) }
@@ -43,6 +45,7 @@ pub fn get8(b: &[u8], at: usize) -> u64
     get::<8>(b, at)
 }
 
+#[tactic(auto, using(crate::proofs::Cells::sets_bytes))]
 pub fn put4(out: &mut [u8], at: usize, n: u64)
     requires { at + 4 ≤ length out.old }
     ensures { out.new ≡ sets out.old at (little 4 n) }
@@ -50,6 +53,7 @@ pub fn put4(out: &mut [u8], at: usize, n: u64)
     put::<4>(out, at, n);
 }
 
+#[tactic(auto, using(crate::proofs::Cells::sets_eight))]
 pub fn put8(out: &mut [u8], at: usize, n: u64)
     requires { at + 8 ≤ length out.old }
     ensures { out.new ≡ sets out.old at (little 8 n) }

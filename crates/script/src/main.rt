@@ -1,8 +1,9 @@
 // The script program (Script): lines on standard input, a reply to each on standard output.
 #![tactic(auto)]
 
-ghost use Rattle.std.specs.Prelude.{ℕ, List, []};
+ghost use Rattle.std.specs.Prelude.{ℕ, ◌≡◌, List, []};
 ghost use Rattle.rules.specs.Script.{output};
+ghost use Rattle.lines.specs.Stream.{fresh_state};
 ghost use Rattle.stdio.specs.Handed.{Handed};
 ghost use Rattle.blocks.specs.Progress.{Lent, Working, Doing, Reading, Ran};
 
@@ -24,7 +25,8 @@ fn fresh<'a>(
     line: &'a mut [u8],
 ) -> Program<'a>
     requires { Lent elems.old shared.old keys.old out.old line.old }
-    ensures { Reading result }
+    ensures head { result.head ≡ fresh_state.head }
+    ensures reading { Reading result }
 {
     let pool = Pool::empty(CAPACITY);
     Program {
@@ -58,7 +60,7 @@ fn finish(program: &mut Program)
     program.sent.send(&out[..fill]);
 }
 
-// A proved loop has to end, and nothing says that an input does: the turns are counted, up to a number that no run reaches.
+// A proved loop has to end, and nothing says that an input does: the turns are counted down, from a number that no run uses up.
 fn run(
     mut from: Stdin,
     to: Stdout,
@@ -73,7 +75,7 @@ fn run(
     ensures { Ran result }
 {
     let mut program = fresh(to, elems, shared, keys, out, line);
-    for _ in 0..u64::MAX {
+    for _ in (0..u64::MAX).rev() {
         let received = stdio::receive(&mut from, block);
         if received == 0 {
             break;

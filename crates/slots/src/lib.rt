@@ -204,7 +204,7 @@ pub fn rewrite(e: &mut [u64], n: u64, x: u64, class: u64)
     ensures { e.new ≡ rewritten n e.old x class }
 {
     let mut at = x;
-    for _ in 0..n {
+    for _ in (0..n).rev() {
         let next = get(e, FRAME, NEXT, at);
         put(e, FRAME, at, CLASS, class);
         at = next;

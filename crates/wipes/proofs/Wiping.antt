@@ -36,6 +36,10 @@ wiped w t capacity used p z e =
     let n : length (take (used * w) t) ≡ used * w = length-take-le (used * w) t (rw p.long (mul-le-mul_right w p.within)) in
     ap (λ (y : List ℕ). y ++ drop (used * w) t) (rw n at e) ∙ wiped_whole w t capacity used p.long p.within p.zeros
 
+-- the same of a fill that ends at a number told apart, so that where it ends is a fact of its own
+pub wiped_to : (w : ℕ) (t : List ℕ) (capacity used end : ℕ) → end ≡ used * w → ZeroPast capacity w used t → (z : List ℕ) → z ≡ replicate (length (take end t)) 0 → z ++ drop end t ≡ replicate (capacity * w) 0
+wiped_to w t capacity used end s p z e = rw s (wiped w t capacity used p z (rw s at e))
+
 -- fresh, by its two ways
 module _ (st : State) (frames headers : ℕ) (o : Outcome) where
   pub fresh_1 : both_fit st frames headers ≡ false → o ≡ outcome st [] (refuse Shape) → o ≡ fresh_step st frames headers

@@ -1,7 +1,7 @@
 -- Script: a number read digit by digit. After `i` bytes of the word the value is theirs, and they are its decimal.
 use Rattle.std.specs.Prelude.{Some, None}
 use Prim.Native.Nat.{ℕ, zero, suc, ◌+◌, ◌*◌, ◌-◌, ◌/◌, ◌^◌, ◌≤◌, ◌<◌}
-use mathlib.Core.Path.{◌≡◌, refl, sym, ap, ◌∙◌}
+use mathlib.Core.Path.{◌≡◌, refl, sym, ap, ◌∙◌, subst}
 use mathlib.Core.Bool.{false}
 use mathlib.Core.List.{List, [], ◌∷◌, ◌++◌}
 use mathlib.Core.Option.{some, none}
@@ -29,6 +29,22 @@ no_digit b h = go (dec_lt b 48) (dec_lt 57 b)
 positive : (i v : ℕ) → (v ≡ 0 → i ≤ 0) → 0 < i → 1 ≤ v
 positive i zero z l = absurd (omega (arith, z refl))
 positive i (suc v) z l = omega arith
+
+-- a word's bytes past the first
+abbrev pub past_first : List ℕ → List ℕ
+past_first word = take (length word - 1) (drop 1 word)
+
+past_first_at : (word : List ℕ) (i : ℕ) → i < length (past_first word) → (i + 1 < length word) × (get_or (past_first word) i 0 ≡ get_or word (i + 1) 0)
+past_first_at [] i l = absurd (omega arith)
+past_first_at (b ∷ w) i l =
+    let e : take (suc (length w) - 1) w ≡ w = take_all (suc (length w) - 1) w (omega arith) in
+    (omega (arith, l, ap length e), rw (e, add-one) refl)
+
+pub length-past_first : (word : List ℕ) (i : ℕ) → length (past_first word) ≤ i → length word ≤ i + 1
+length-past_first [] i l = omega arith
+length-past_first (b ∷ w) i l =
+    let e : take (suc (length w) - 1) w ≡ w = take_all (suc (length w) - 1) w (omega arith) in
+    omega (arith, l, ap length e)
 
 module _ (word : List ℕ) (most : ℕ) where
   pub reading_empty : None ≡ slice_get word 0 → number most word ≡ none
@@ -101,6 +117,34 @@ module _ (word : List ℕ) (most : ℕ) where
             worth = rw s (word_value-append 0 (take i word) ((48 + d) ∷ []) ∙ rw r.worth (omega arith));
             said = λ g. rw s (more (omega arith) (first h) (dec_lt 0 i));
           }
+
+  -- the first byte
+  module _ (inside : 0 < length word) where
+    pub reading_other : (b : ℕ) → b ≡ get_or word 0 0 → IsDigit b None → number most word ≡ none
+    reading_other b e h = reading_no_digit 0 0 reading_start inside (subst (λ (b : ℕ). IsDigit b None) e h)
+
+    pub reading_first : (b d : ℕ) → b ≡ get_or word 0 0 → IsDigit b (Some d) → 9 ≤ most → most < 10 ^ 20 → (get_or word 0 0 ≡ 48 → length word ≤ 1) → Reading d 1
+    reading_first b d e h n m z =
+        let v : 0 * 10 + d ≡ d = omega arith in
+        rw v at (reading_next 0 0 reading_start inside d (subst (λ (b : ℕ). IsDigit b (Some d)) e h) m z (omega (arith, h.0)))
+
+  -- the bytes past it
+  module _ (value i : ℕ) (r : Reading value (i + 1)) (inside : i < length (past_first word)) where
+    pub reading_past_no_digit : IsDigit (get_or (past_first word) i 0) None → number most word ≡ none
+    reading_past_no_digit h =
+        let p = past_first_at word i inside in
+        reading_no_digit value (i + 1) r p.0 (subst (λ (b : ℕ). IsDigit b None) p.1 h)
+
+    module _ (d : ℕ) (digit : IsDigit (get_or (past_first word) i 0) (Some d)) where
+      pub reading_past_large : 9 ≤ most → (most - d) / 10 < value → number most word ≡ none
+      reading_past_large n l =
+          let p = past_first_at word i inside in
+          reading_large value (i + 1) r p.0 d (subst (λ (b : ℕ). IsDigit b (Some d)) p.1 digit) n l
+
+      pub reading_past : most < 10 ^ 20 → (get_or word 0 0 ≡ 48 → length word ≤ 1) → value * 10 + d ≤ most → Reading (value * 10 + d) (i + 1 + 1)
+      reading_past m h l =
+          let p = past_first_at word i inside in
+          reading_next value (i + 1) r p.0 d (subst (λ (b : ℕ). IsDigit b (Some d)) p.1 digit) m h l
 
   pub reading_done : (value i : ℕ) → Reading value i → length word ≤ i → 0 < length word → number most word ≡ some value
   reading_done value i r h l =

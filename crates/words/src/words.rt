@@ -31,8 +31,8 @@ pub fn number(word: &[u8], most: u64) -> Option<u64>
     if first == b'0' && word.len() > 1 {
         return None;
     }
-    let mut value = 0;
-    for byte in word {
+    let mut value = digit(first)?;
+    for byte in &word[1..] {
         let digit = digit(*byte)?;
         if (most - digit) / 10 < value {
             return None;

@@ -6,4 +6,4 @@ use Rattle.script.proofs.fresh.Goals as goal
 
 pub returns : goal.returns
 unfolding empty
-returns c = rw c.empty-pool.ensures (reading_start _ c.requires refl c.nothing.ensures refl refl)
+returns c = rw c.empty-pool.ensures (record { head = refl; reading = reading_start _ c.requires refl c.nothing.ensures refl refl })

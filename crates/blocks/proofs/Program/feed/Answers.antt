@@ -1,8 +1,9 @@
+use Rattle.std.proofs.Common.{refl}
 use Rattle.blocks.proofs.Steps.{feeding_start, feeding_next, feeding_end}
 use Rattle.blocks.proofs.Program.feed.Goals as goal
 
 pub loop-part-init : goal.loop-part-init
-loop-part-init c = feeding_start _ _ c.requires
+loop-part-init c = feeding_start _ _ refl c.requires
 
 pub loop-part-preserved : goal.loop-part-preserved
 loop-part-preserved c =
