@@ -72,17 +72,40 @@ pub sets_append : (l : List ℕ) (at : ℕ) (a b : List ℕ) → sets (sets l at
 sets_append l at [] b = let z : at + 0 ≡ at = omega arith in rw z
 sets_append l at (x ∷ a) b = let z : at + suc (length a) ≡ suc at + length a = omega arith in rw z (sets_append (set l at x) (suc at) a b)
 
--- a number in two parts
-value_eight : (l : List ℕ) → value 8 l ≡ value 4 l + 4294967296 * value 4 (drop 4 l)
+-- a number in two parts, and what is stored of it
+value-none : (n : ℕ) → value n [] ≡ 0
 unfolding value
-value_eight [] = refl
-value_eight (x ∷ []) = omega arith
-value_eight (x ∷ y ∷ []) = omega arith
-value_eight (x ∷ y ∷ z ∷ []) = omega arith
-value_eight (x ∷ y ∷ z ∷ w ∷ l) = omega arith
+value-none zero = refl
+value-none (suc n) = refl
 
+value_parts : (m n : ℕ) (l : List ℕ) → value (m + n) l ≡ value m l + 256 ^ m * value n (drop m l)
+unfolding value
+value_parts zero n l = let z : 0 + n ≡ n = omega arith in rw z (omega arith)
+value_parts (suc m) n [] = omega (arith, value-none (suc m + n), value-none (suc m), ap (λ (k : ℕ). 256 ^ suc m * k) (value-none n))
+value_parts (suc m) n (x ∷ l) =
+    let p : 256 ^ suc m * value n (drop m l) ≡ 256 * (256 ^ m * value n (drop m l)) = rw (pow-suc 256 m) (ap (λ (k : ℕ). k * value n (drop m l)) (mul_comm (256 ^ m) 256) ∙ mul_assoc 256 (256 ^ m) (value n (drop m l))) in
+    let s : suc m + n ≡ suc (m + n) = omega arith in
+    rw s (omega (arith, value_parts m n l, p))
+
+little_parts : (m n k : ℕ) → little (m + n) k ≡ little m k ++ little n (k / 256 ^ m)
+unfolding little
+little_parts zero n k = let z : 0 + n ≡ n = omega arith in let o : k / 1 ≡ k = omega arith in rw (z, o) refl
+little_parts (suc m) n k =
+    let p : k / 256 / 256 ^ m ≡ k / 256 ^ suc m = div-div-eq-div-mul k 256 (256 ^ m) ∙ ap (λ (d : ℕ). k / d) (mul_comm 256 (256 ^ m) ∙ sym (pow-suc 256 m)) in
+    let s : suc m + n ≡ suc (m + n) = omega arith in
+    rw s (ap (λ (l : List ℕ). k % 256 ∷ l) (little_parts m n (k / 256) ∙ ap (λ (d : ℕ). little m (k / 256) ++ little n d) p))
+
+sets_parts : (m n : ℕ) (l l₁ l₂ : List ℕ) (at k : ℕ) → l₁ ≡ sets l at (little m k) → l₂ ≡ sets l₁ (at + m) (little n (k / 256 ^ m)) → l₂ ≡ sets l at (little (m + n) k)
+sets_parts m n l l₁ l₂ at k p q =
+    let z : sets (sets l at (little m k)) (at + m) (little n (k / 256 ^ m)) ≡ sets (sets l at (little m k)) (at + length (little m k)) (little n (k / 256 ^ m)) = ap (λ (w : ℕ). sets (sets l at (little m k)) (at + w) (little n (k / 256 ^ m))) (sym (length-little m k)) in
+    q ∙ ap (λ (x : List ℕ). sets x (at + m) (little n (k / 256 ^ m))) p ∙ z ∙ sets_append l at (little m k) (little n (k / 256 ^ m)) ∙ ap (sets l at) (sym (little_parts m n k))
+
+-- the same at the widths of a file's numbers: halves of eight bytes, and four bytes one by one
 pub value_at8 : (b : List ℕ) (at : ℕ) → value 8 (drop at b) ≡ value 4 (drop at b) + 4294967296 * value 4 (drop (at + 4) b)
-value_at8 b at = value_eight (drop at b) ∙ rw (drop-drop 4 at b)
+value_at8 b at = value_parts 4 4 (drop at b) ∙ rw (drop-drop 4 at b)
+
+pub value_at4 : (b : List ℕ) (at : ℕ) → value 4 (drop at b) ≡ value 1 (drop at b) + value 1 (drop (at + 1) b) * 256 + value 1 (drop (at + 2) b) * 65536 + value 1 (drop (at + 3) b) * 16777216
+value_at4 b at = omega (arith, value_parts 3 1 (drop at b), value_parts 2 1 (drop at b), value_parts 1 1 (drop at b), ap (value 1) (drop-drop 1 at b), ap (value 1) (drop-drop 2 at b), ap (value 1) (drop-drop 3 at b))
 
 pub little_eight : (n : ℕ) → little 8 n ≡ little 4 n ++ little 4 (n / 256 / 256 / 256 / 256)
 unfolding little
@@ -90,26 +113,11 @@ little_eight n = refl
 
 pub sets_eight : (l l₁ l₂ : List ℕ) (at n : ℕ) → l₁ ≡ sets l at (little 4 n) → l₂ ≡ sets l₁ (at + 4) (little 4 (n / 256 / 256 / 256 / 256)) → l₂ ≡ sets l at (little 8 n)
 sets_eight l l₁ l₂ at n p q =
-    let a = little 4 n in
-    let b = little 4 (n / 256 / 256 / 256 / 256) in
-    let z : sets (sets l at a) (at + 4) b ≡ sets (sets l at a) (at + length a) b = ap (λ (k : ℕ). sets (sets l at a) (at + k) b) (sym (length-little 4 n)) in
-    q ∙ ap (λ (x : List ℕ). sets x (at + 4) b) p ∙ z ∙ sets_append l at a b ∙ ap (sets l at) (sym (little_eight n))
-
-value_four : (l : List ℕ) → value 4 l ≡ value 1 l + value 1 (drop 1 l) * 256 + value 1 (drop 2 l) * 65536 + value 1 (drop 3 l) * 16777216
-unfolding value
-value_four [] = refl
-value_four (x ∷ []) = omega arith
-value_four (x ∷ y ∷ []) = omega arith
-value_four (x ∷ y ∷ z ∷ []) = omega arith
-value_four (x ∷ y ∷ z ∷ w ∷ l) = omega arith
-
-pub value_at4 : (b : List ℕ) (at : ℕ) → value 4 (drop at b) ≡ value 1 (drop at b) + value 1 (drop (at + 1) b) * 256 + value 1 (drop (at + 2) b) * 65536 + value 1 (drop (at + 3) b) * 16777216
-value_at4 b at = value_four (drop at b) ∙ rw (drop-drop 1 at b, drop-drop 2 at b, drop-drop 3 at b)
+    let d : n / 256 / 256 / 256 / 256 ≡ n / 256 ^ 4 = omega arith in
+    sets_parts 4 4 l l₁ l₂ at n p (rw d at q)
 
 pub sets_bytes : (l l₁ l₂ l₃ l₄ : List ℕ) (at n : ℕ) → l₁ ≡ sets l at (little 1 n) → l₂ ≡ sets l₁ (at + 1) (little 1 (n / 256)) → l₃ ≡ sets l₂ (at + 2) (little 1 (n / 256 / 256)) → l₄ ≡ sets l₃ (at + 3) (little 1 (n / 256 / 256 / 256)) → l₄ ≡ sets l at (little 4 n)
-unfolding little
 sets_bytes l l₁ l₂ l₃ l₄ at n p q r s =
-    let one : at + 1 ≡ suc at = omega arith in
-    let two : at + 2 ≡ suc (suc at) = omega arith in
-    let three : at + 3 ≡ suc (suc (suc at)) = omega arith in
-    rw (s, r, q, p, one, two, three)
+    let two : n / 256 / 256 ≡ n / 256 ^ 2 = omega arith in
+    let three : n / 256 / 256 / 256 ≡ n / 256 ^ 3 = omega arith in
+    sets_parts 3 1 l l₃ l₄ at n (sets_parts 2 1 l l₂ l₃ at n (sets_parts 1 1 l l₁ l₂ at n p q) (rw two at r)) (rw three at s)
